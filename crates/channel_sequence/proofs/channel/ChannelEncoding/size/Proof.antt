@@ -1,0 +1,36 @@
+-- `ChannelEncoding::size` meets its contract: the encoding that was found, or the refusal, is that of `encodingOf`.
+-- Assumes nothing.
+use Rattle.channel_sequence.proofs.channel.ChannelEncoding.size.Statement.{statement}
+use Rattle.channel_sequence.proofs.channel.ChannelEncoding.size.Tie as tie
+use Rattle.channel_sequence.specs.Answers.{saidEncoding}
+use borrow.Author.Needs.{needs}
+use mathlib.Core.Path.{sym, ap, _∙_}
+
+from-bits-requires : tie.Need-from-bits-requires
+from-bits-requires c κs = search needs
+
+enum-known-known : tie.Need-enum-known-known
+enum-known-known c = search needs
+
+entry-size-requires : tie.Need-entry-size-requires
+entry-size-requires c κs = search needs
+
+enum-known-why : tie.Need-enum-known-why
+enum-known-why c = search needs
+
+returns : tie.Need-returns
+returns c = rw (sym (c .before .before .before .before .from-bits .ensures) ∙ ap saidEncoding (c .before .before .known .given .1), c .entry-size .ensures)
+
+returns-2 : tie.Need-returns-2
+returns-2 c = rw (sym (c .before .before .before .from-bits .ensures) ∙ ap saidEncoding (c .before .why .given .1))
+
+pub size-spec : {M : Type 1} → statement M
+size-spec =
+    tie.close
+    (tie.spec
+    from-bits-requires
+    enum-known-known
+    entry-size-requires
+    enum-known-why
+    returns
+    returns-2)

@@ -1,0 +1,82 @@
+-- `ChannelSequence::write` meets its contract: what is put is the bytes on the wire, after the size and the room were settled.
+-- Assumes nothing.
+use Prim.Native.Nat.{_≤_}
+use Rattle.channel_sequence.proofs.Entries.{sized, size-most, wire-bytes}
+use Rattle.channel_sequence.proofs.channel_sequence.ChannelSequence.write.Statement.{statement}
+use Rattle.channel_sequence.proofs.channel_sequence.ChannelSequence.write.Tie as tie
+use Rattle.channel_sequence.specs.Sequences.{sizeOf}
+use Rattle.wire.proofs.Bytes.{within-room}
+use Rattle.wire.proofs.Stores.{wrote-all, wrote-none}
+use Rattle.wire.specs.Answers.{saidSize}
+use Rattle.wire.specs.Asking.{answer}
+use borrow.Author.Needs.{needs}
+use lib.ListN.{length, take}
+use lib.Seq.{length-take-le}
+use mathlib.Core.Path.{_≡_, sym, ap, _∙_}
+use native.Mathlib.Omega.{arith}
+
+-- where a size was given, it is the sequence's, the buffer has room for it, and the sequence has the bytes
+settled : (c : tie.After-known-told) →
+    let a = c .before .before .before .before .before .before .before .args in
+    let n = c .before .n .given .0 .0 in
+    (sizeOf (a .self) ≡ answer n) × (n ≤ length (a .buf .now))
+settled c =
+    let said = ap saidSize (sym (c .before .n .given .1)) ∙ c .before .before .before .within .ensures in
+    within-room _ _ (rw (c .before .before .before .before .size .ensures) at said)
+
+whole : (c : tie.After-known-told) → c .before .n .given .0 .0 ≤ length (c .before .before .before .before .before .before .before .args .self .bytes)
+whole c =
+    let w = sized (c .before .before .before .before .before .before .before .args .self) (settled c .0) in
+    let most = size-most (w .encoding) in
+    let all : length (c .before .before .before .before .before .before .before .args .self .bytes) ≡ 32 = search needs in
+    omega arith
+
+size-requires : tie.Need-size-requires
+size-requires c κs = search needs
+
+within-requires : tie.Need-within-requires
+within-requires c κs = search needs
+
+enum-known-n : tie.Need-enum-known-n
+enum-known-n c = search needs
+
+array-share-prefix-bytes : tie.Need-array-share-prefix-bytes
+array-share-prefix-bytes c = whole (c .before)
+
+slice-aggregate-put-slice : tie.Need-slice-aggregate-put-slice
+slice-aggregate-put-slice c = sym (length-take-le _ (c .before .before .before .before .before .before .before .before .before .args .self .bytes) (whole (c .before .before)))
+
+put-slice-requires : tie.Need-put-slice-requires
+put-slice-requires c κs = search needs
+
+enum-known-why : tie.Need-enum-known-why
+enum-known-why c = search needs
+
+same-length : tie.Need-same-length
+same-length c = search needs
+
+returns : tie.Need-returns
+returns c =
+    let room = settled (c .before .before .before .before .before) in
+    let part = length-take-le (c .before .before .before .before .before .before .n .given .0 .0) (c .before .before .before .before .before .before .before .before .before .before .before .before .args .self .bytes) (whole (c .before .before .before .before .before)) in
+    rw (wire-bytes (sized (c .before .before .before .before .before .before .before .before .before .before .before .before .args .self) (room .0)), room .0) (wrote-all _ (c .before .before .put-slice .ensures) part (room .1))
+
+returns-2 : tie.Need-returns-2
+returns-2 c =
+    let said = ap saidSize (sym (c .before .why .given .1)) ∙ c .before .before .before .within .ensures in
+    wrote-none (rw (c .before .before .before .before .size .ensures) at said)
+
+pub write-spec : {M : Type 1} → statement M
+write-spec =
+    tie.close
+    (tie.spec
+    size-requires
+    within-requires
+    enum-known-n
+    array-share-prefix-bytes
+    slice-aggregate-put-slice
+    put-slice-requires
+    enum-known-why
+    same-length
+    returns
+    returns-2)

@@ -1,0 +1,4 @@
+pub mod Channels
+pub mod Sequences
+pub mod SequenceReader
+pub mod Answers

@@ -1,0 +1,91 @@
+-- What code that reads byte after byte has is what `field` and `number` say, at every width.
+-- Assumes nothing.
+use Prim.Native.Nat.{ℕ, zero, suc, _+_, _*_, _-_, _≤_, _<_}
+use native.Mathlib.Nat.{add-suc, add-zero}
+use native.Mathlib.Omega.{arith}
+use mathlib.Core.Path.{_≡_, refl, sym, ap, _∙_}
+use mathlib.Core.Bool.{Bool, true, false, cond}
+use mathlib.Core.List.{List, [], _∷_}
+use lib.Dec.{leb}
+use lib.ListN.{length, getD, take, drop, length-drop}
+use lib.Seq.{drop-cons, length-take-le}
+use borrow.Author.Tests.{le-leb, lt-leb, leb-true}
+use Rattle.wire.specs.declared.refusal.Refusal.{Refusal}
+use Rattle.wire.specs.declared.refusal.Refusal.the-variants.{Short}
+use Rattle.wire.specs.Reading.{Reading, read, refused, field}
+use Rattle.wire.specs.Asking.{Answer, answer, refusal, placeOf, within}
+use Rattle.wire.specs.Numbers.{little, number}
+
+-- n bytes, the first of them k behind a place
+abbrev pub from : List ℕ → ℕ → ℕ → ℕ → List ℕ
+from s at k zero = []
+from s at k (suc n) = getD s (at + k) 0 ∷ from s at (suc k) n
+
+from-take : (s : List ℕ) (at k n : ℕ) → at + k + n ≤ length s → take n (drop (at + k) s) ≡ from s at k n
+from-take s at k zero h = refl
+from-take s at k (suc n) h =
+    let inside : at + k < length s = omega arith in
+    let behind : at + suc k + n ≤ length s = omega arith in
+    rw (drop-cons s (at + k) 0 inside, ← add-suc at k, from-take s at (suc k) n behind)
+
+-- the bytes of a field that stands whole; the first byte is at the place itself, with no sum
+pub field-whole : (n : ℕ) (s : List ℕ) (at : ℕ) → suc n ≤ length s - at
+    → field (suc n) s at ≡ read (getD s at 0 ∷ from s at 1 n) (at + suc n)
+field-whole n s at h =
+    let inside : at + suc n ≤ length s = omega arith in
+    let here : at + 0 + suc n ≤ length s = omega arith in
+    rw (le-leb (at + suc n) (length s) inside)
+    (ap (λ (b : List ℕ). read b (at + suc n))
+    (rw add-zero at (from-take s at 0 (suc n) here)))
+
+pub field-short : (n : ℕ) (s : List ℕ) (at : ℕ) → length s - at < suc n → field (suc n) s at ≡ refused Short
+field-short n s at h =
+    let past : length s < at + suc n = omega arith in
+    rw (lt-leb (at + suc n) (length s) past)
+
+pub number-whole : (n : ℕ) (s : List ℕ) (at v : ℕ) → suc n ≤ length s - at
+    → v ≡ getD s at 0 + 256 * little (from s at 1 n) → read v (at + suc n) ≡ number (suc n) s at
+number-whole n s at v h e = rw (field-whole n s at h, e)
+
+pub number-short : (n : ℕ) (s : List ℕ) (at : ℕ) → length s - at < suc n → refused Short ≡ number (suc n) s at
+number-short n s at h = rw (field-short n s at h)
+
+-- a field whose place was given: it stands within, and is the part up to that place
+pub record Placed (n : ℕ) (s : List ℕ) (at next : ℕ) : Type 0 where
+  pub place : next ≡ at + n
+  pub inside : at + n ≤ length s
+  pub size : length (take (next - at) (drop at s)) ≡ n
+  pub whole : field n s at ≡ read (take (next - at) (drop at s)) next
+
+pub placed : (n : ℕ) (s : List ℕ) (at : ℕ) {next : ℕ} → answer next ≡ placeOf (field n s at) → Placed n s at next
+placed n s at {next} e = go (leb (at + n) (length s)) refl
+  where
+    go : (b : Bool) → leb (at + n) (length s) ≡ b → Placed n s at next
+    go true q =
+        let place : next ≡ at + n = let e′ = rw q at e in cc in
+        let inside : at + n ≤ length s = leb-true (at + n) (length s) q in
+        let many : next - at ≡ n = omega arith in
+        record {
+          place = place;
+          inside = inside;
+          size = rw many (length-take-le n (drop at s) (simp length-drop (omega arith)));
+          whole = rw (q, many, place);
+        }
+    go false q = absurd (let e′ = rw q at e in let z : _≡_ {A = ℕ} 0 1 = cc in omega arith)
+
+-- a reading whose place was refused is that refusal
+pub unplaced : {A : Type 0} (r : Reading A) {why : Refusal} → refusal why ≡ placeOf r → r ≡ refused why
+unplaced (read a next) e = absurd (let z : _≡_ {A = ℕ} 0 1 = cc in omega arith)
+unplaced (refused why) e = cc
+
+-- a size that fits a room is the size itself, and one that is refused is refused by the room too
+pub within-room : (room : ℕ) (size : Answer ℕ) {n : ℕ} → answer n ≡ within room size → (size ≡ answer n) × (n ≤ room)
+within-room room (answer m) {n} e = go (leb m room) refl
+  where
+    go : (b : Bool) → leb m room ≡ b → (answer m ≡ answer n) × (n ≤ room)
+    go true q =
+        let e′ = rw q at e in
+        let same : m ≡ n = cc in
+        (ap answer same, rw same at (leb-true m room q))
+    go false q = absurd (let e′ = rw q at e in let z : _≡_ {A = ℕ} 0 1 = cc in omega arith)
+within-room room (refusal why) e = absurd (let z : _≡_ {A = ℕ} 0 1 = cc in omega arith)

@@ -1,0 +1,86 @@
+-- What was written is read back, from any place and with anything behind, proved once for each way of putting readers together.
+-- Assumes nothing.
+use Prim.Native.Nat.{ℕ, zero, suc, _+_, _*_, _/_, _%_, _^_, _≤_, _<_}
+use native.Mathlib.Nat.{add-zero, add-assoc, pow-suc, div-lt-iff-lt-mul}
+use native.Mathlib.Omega.{arith}
+use mathlib.Core.Path.{_≡_, refl, sym, ap, _∙_}
+use mathlib.Core.Bool.{Bool, true, false, cond}
+use mathlib.Core.List.{List, [], _∷_, _++_, append-assoc}
+use lib.Dec.{lit<}
+use lib.ListN.{length, take, drop, length-append}
+use lib.Seq.{drop-append-seam, take-append-seam}
+use borrow.Author.Tests.{le-leb}
+use Rattle.wire.specs.declared.read.MACAddress.{MACAddress}
+use Rattle.wire.specs.Reading.{Reading, Reader, read, give, field, _>>=_, when}
+use Rattle.wire.specs.Asking.{Answer, answer, asked}
+use Rattle.wire.specs.Numbers.{little, littleBytes, number}
+use Rattle.wire.specs.Addresses.{address, addressOf, addressBytes}
+
+-- a reader reads some bytes as a value
+pub record Back {A : Type 0} (r : Reader A) (bytes : List ℕ) (a : A) : Type 0 where
+  pub back : (before behind : List ℕ) → r (before ++ bytes ++ behind) (length before) ≡ read a (length before + length bytes)
+
+pub give-back : {A : Type 0} (a : A) → Back (give a) [] a
+give-back a = record { back = λ before behind. rw add-zero }
+
+pub field-back : (n : ℕ) (bytes : List ℕ) → length bytes ≡ n → Back (field n) bytes bytes
+field-back n bytes e =
+    record {
+      back = λ before behind.
+          let s : List ℕ = before ++ bytes ++ behind in
+          let fits : length before + n ≤ length s = simp length-append (omega arith) in
+          rw (
+            le-leb (length before + n) (length s) fits,
+            append-assoc before bytes behind,
+            drop-append-seam before (bytes ++ behind),
+            ← e,
+            take-append-seam bytes behind,
+          );
+    }
+
+pub bind-back : {A B : Type 0} {m : Reader A} (f : A → Reader B) {xs ys : List ℕ} {a : A} {b : B}
+    → Back m xs a → Back (f a) ys b → Back (m >>= f) (xs ++ ys) b
+bind-back {m} f {xs} {ys} {a} {b} first second =
+    record {
+      back = λ before behind.
+          let s : List ℕ = before ++ (xs ++ ys) ++ behind in
+          let split : s ≡ before ++ xs ++ (ys ++ behind) = simp append-assoc in
+          let mid : ℕ = length before + length xs in
+          let begins : m s (length before) ≡ read a mid = rw split (first .back before (ys ++ behind)) in
+          let regroup : s ≡ before ++ xs ++ ys ++ behind = simp append-assoc in
+          let goes : f a s mid ≡ read b (mid + length ys) =
+          rw (regroup, ← length-append before xs) (second .back (before ++ xs) behind) in
+          rw (begins, goes, length-append xs ys, add-assoc (length before) (length xs) (length ys));
+    }
+
+-- the last step of a format: what was read, put together
+pub made-back : {A B : Type 0} {m : Reader A} (g : A → B) {bytes : List ℕ} {a : A}
+    → Back m bytes a → Back (m >>= λ x. give (g x)) bytes (g a)
+made-back g {bytes} {a} h = record { back = λ before behind. rw (h .back before behind) }
+
+-- an answer that takes no byte
+pub asked-back : {A : Type 0} {found : Answer A} {a : A} → found ≡ answer a → Back (asked found) [] a
+asked-back {a} e = rw e (give-back a)
+
+pub when-back : {A : Type 0} {r : Reader A} {bytes : List ℕ} {a : A} (b : Bool) (absent : A)
+    → Back r bytes a → (b ≡ false → a ≡ absent) → Back (when b absent r) (cond b bytes []) a
+when-back true absent h e = h
+when-back false absent h e = rw (e refl) (give-back absent)
+
+little-back : (width v : ℕ) → v < 256 ^ width → little (littleBytes width v) ≡ v
+little-back zero v h = omega arith
+little-back (suc width) v h =
+    let high : v / 256 < 256 ^ width = div-lt-iff-lt-mul (lit< tt) .1 (rw (pow-suc 256 width) at h) in
+    rw (little-back width (v / 256) high) (omega arith)
+
+length-little : (width v : ℕ) → length (littleBytes width v) ≡ width
+length-little zero v = refl
+length-little (suc width) v = ap suc (length-little width (v / 256))
+
+pub number-back : (width v : ℕ) → v < 256 ^ width → Back (number width) (littleBytes width v) v
+number-back width v h =
+    rw (little-back width v h) at
+    (made-back little (field-back width (littleBytes width v) (length-little width v)))
+
+pub address-back : (a : MACAddress) → Back address (addressBytes a) a
+address-back a = made-back addressOf (field-back 6 (addressBytes a) refl)

@@ -1,0 +1,109 @@
+-- What code that stores byte after byte leaves is what `putting` says; putting one run behind another is putting both at once.
+-- Assumes nothing.
+use Prim.Native.Nat.{ℕ, zero, suc, _+_, _-_, _≤_, _<_}
+use native.Mathlib.Nat.{add-suc, add-zero, zero-add, add-assoc}
+use native.Mathlib.Numerals.{add-one}
+use native.Mathlib.Omega.{arith}
+use mathlib.Core.Path.{_≡_, refl, sym, ap, _∙_}
+use mathlib.Core.Bool.{Bool, true, false}
+use mathlib.Core.List.{List, [], _∷_, _++_, append-assoc, append-nil}
+use lib.Dec.{leb}
+use lib.ListN.{length, take, drop, set, length-set, length-append, length-take, length-drop, take-append-drop}
+use lib.Seq.{sets, sets-eq, paste, paste-zero, take-length, take-at, drop-append-add, drop-drop}
+use borrow.Author.Tests.{le-leb, lt-leb, leb-false}
+use Rattle.wire.specs.declared.refusal.Refusal.{Refusal}
+use Rattle.wire.specs.declared.read.Size.{Size}
+use Rattle.wire.specs.Asking.{Answer, answer, refusal, within}
+use Rattle.wire.specs.Writing.{room, putting, behind, Put, Wrote}
+
+-- bytes stored one after the other, the first of them k behind a place
+abbrev pub over : List ℕ → ℕ → ℕ → List ℕ → List ℕ
+over s at k [] = s
+over s at k (b ∷ bs) = over (set s (at + k) b) at (suc k) bs
+
+over-sets : (s : List ℕ) (at k : ℕ) (bs : List ℕ) → over s at k bs ≡ sets s (at + k) bs
+over-sets s at k [] = refl
+over-sets s at k (b ∷ bs) = over-sets (set s (at + k) b) at (suc k) bs ∙ rw (add-suc at k)
+
+pub put-whole : (s : List ℕ) (at b : ℕ) (bs : List ℕ) → suc (length bs) ≤ length s - at
+    → Put s at (b ∷ bs) (at + suc (length bs)) (over (set s at b) at 1 bs)
+put-whole s at b bs h =
+    let inside : at + suc (length bs) ≤ length s = omega arith in
+    let fits : room s at (b ∷ bs) ≡ true = le-leb (at + suc (length bs)) (length s) inside in
+    record {
+      place = rw fits;
+      buffer = rw (fits, ← sets-eq (b ∷ bs) s at inside) (over-sets (set s at b) at 1 bs ∙ rw add-one);
+    }
+
+pub put-none : (s : List ℕ) (at : ℕ) (bytes : List ℕ) → length s - at < length bytes → Put s at bytes at s
+put-none s at bytes h =
+    let past : length s < at + length bytes = omega arith in
+    let full : room s at bytes ≡ false = lt-leb (at + length bytes) (length s) past in
+    record { place = rw full; buffer = rw full }
+
+-- the whole of a slice, copied byte after byte
+pub put-pasted : (s : List ℕ) (at : ℕ) (bytes : List ℕ) → length bytes ≤ length s - at
+    → Put s at bytes (at + length bytes) (paste s at bytes (length bytes))
+put-pasted s at bytes h = go (room s at bytes) refl
+  where
+    go : (b : Bool) → room s at bytes ≡ b → Put s at bytes (at + length bytes) (paste s at bytes (length bytes))
+    go true e = record { place = rw e; buffer = rw (e, take-length bytes) }
+    go false e =
+        let past : length s < at + length bytes = leb-false (at + length bytes) (length s) e in
+        let none : length bytes ≡ 0 = omega arith in
+        record { place = rw e (omega arith); buffer = rw (e, none) (sym (paste-zero s at bytes)) }
+
+-- bytes that fit stand in the buffer, with all before and behind them kept
+pub put-fits : {s : List ℕ} {at : ℕ} {bytes : List ℕ} {next : ℕ} {t : List ℕ} → Put s at bytes next t → at + length bytes ≤ length s
+    → (next ≡ at + length bytes) × (t ≡ take at s ++ bytes ++ drop (at + length bytes) s) × (length t ≡ length s)
+put-fits {s} {at} {bytes} p h =
+    let fits : room s at bytes ≡ true = le-leb (at + length bytes) (length s) h in
+    let laid = rw fits at (p .buffer) in (
+      rw fits at (p .place),
+      laid,
+      rw laid (simp (length-append, length-take, length-drop) (omega arith)),
+    )
+
+-- no byte, where a field is absent
+pub put-empty : (s : List ℕ) (at : ℕ) → at ≤ length s → Put s at [] at s
+put-empty s at h =
+    let fits : room s at [] ≡ true = le-leb (at + 0) (length s) (omega arith) in
+    record { place = rw (fits, add-zero at); buffer = rw (fits, add-zero at, append-nil (take at s)) (sym (take-append-drop at s)) }
+
+-- one run behind another is both at once
+pub put-then : {s : List ℕ} {at : ℕ} {xs : List ℕ} {mid : ℕ} {t : List ℕ} {ys : List ℕ} {next : ℕ} {u : List ℕ}
+    → Put s at xs mid t → Put t mid ys next u → at + (length xs + length ys) ≤ length s → Put s at (xs ++ ys) next u
+put-then {s} {at} {xs} {mid} {t} {ys} {next} {u} p q h =
+    let first = put-fits p (omega arith) in
+    let second = put-fits q (omega arith) in
+    let front : List ℕ = take at s ++ xs in
+    let rest : List ℕ = drop (at + length xs) s in
+    let head : length front ≡ mid = simp (length-append, length-take) (omega arith) in
+    let kept : take mid t ≡ front = rw (first .1) (take-at front rest mid head) in
+    let behind : drop (mid + length ys) t ≡ drop (at + (length xs + length ys)) s =
+    rw (first .1, ← head, ← add-assoc at (length xs) (length ys))
+    (drop-append-add front rest (length ys) ∙ drop-drop (length ys) (at + length xs) s) in
+    let fits : room s at (xs ++ ys) ≡ true = le-leb (at + length (xs ++ ys)) (length s) (simp length-append (omega arith)) in
+    record {
+      place = rw (fits, length-append xs ys) (omega arith);
+      buffer = rw (fits, length-append xs ys, second .1, kept, behind, append-assoc (take at s) xs ys);
+    }
+
+-- a record's bytes at the start of a buffer that has room for them
+pub put-all : {s bytes : List ℕ} {next : ℕ} {t : List ℕ} → Put s 0 bytes next t → length bytes ≤ length s
+    → (next ≡ length bytes) × (t ≡ bytes ++ drop (length bytes) s)
+put-all {s} {bytes} p h =
+    let laid = put-fits p (omega arith) in
+    (laid .0 ∙ zero-add (length bytes), rw (zero-add (length bytes)) at (laid .1))
+
+-- a writer that put all of its bytes into a buffer with room for them
+pub wrote-all : {s bytes : List ℕ} {next : ℕ} {t : List ℕ} (n : ℕ) → Put s 0 bytes next t → length bytes ≡ n → n ≤ length s
+    → Wrote s bytes (answer n) (Size.Bytes n) t
+wrote-all {s} {bytes} n p e h =
+    let fits : leb n (length s) ≡ true = le-leb n (length s) h in
+    record { said = rw fits; buffer = rw (fits, ← e) (put-all p (omega arith) .1) }
+
+-- a writer that refused, and wrote nothing
+pub wrote-none : {s bytes : List ℕ} {size : Answer ℕ} {why : Refusal} → refusal why ≡ within (length s) size
+    → Wrote s bytes size (Size.Refused why) s
+wrote-none e = record { said = e; buffer = rw (← e) }

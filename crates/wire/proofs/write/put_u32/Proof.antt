@@ -1,0 +1,81 @@
+-- `wire::put_u32` meets its contract: its stores, one after the other, are what `putting` says.
+-- Assumes nothing.
+use Rattle.wire.proofs.Stores.{put-whole, put-none}
+use Rattle.wire.proofs.write.put_u32.Statement.{statement}
+use Rattle.wire.proofs.write.put_u32.Tie as tie
+use borrow.Author.Needs.{needs}
+use lib.ListN.{length-set}
+use native.Mathlib.Omega.{arith}
+
+left-requires : tie.Need-left-requires
+left-requires c κs = search needs
+
+returns : tie.Need-returns
+returns c =
+    let a = c .before .before .before .args in
+    put-none (a .buf .now) (a .at) _ (omega arith)
+
+cast-buf : tie.Need-cast-buf
+cast-buf c = search needs
+
+slice-write-buf : tie.Need-slice-write-buf
+slice-write-buf c = search needs
+
+cast-buf-2 : tie.Need-cast-buf-2
+cast-buf-2 c = search needs
+
+add-buf : tie.Need-add-buf
+add-buf c = search needs
+
+slice-write-buf-2 : tie.Need-slice-write-buf-2
+slice-write-buf-2 c = simp length-set (omega arith)
+
+cast-buf-3 : tie.Need-cast-buf-3
+cast-buf-3 c = search needs
+
+add-buf-2 : tie.Need-add-buf-2
+add-buf-2 c = search needs
+
+slice-write-buf-3 : tie.Need-slice-write-buf-3
+slice-write-buf-3 c = simp length-set (omega arith)
+
+cast-buf-4 : tie.Need-cast-buf-4
+cast-buf-4 c = search needs
+
+add-buf-3 : tie.Need-add-buf-3
+add-buf-3 c = search needs
+
+slice-write-buf-4 : tie.Need-slice-write-buf-4
+slice-write-buf-4 c = simp length-set (omega arith)
+
+add-result : tie.Need-add-result
+add-result c = search needs
+
+same-length : tie.Need-same-length
+same-length c = search needs
+
+returns-2 : tie.Need-returns-2
+returns-2 c =
+    let a = c .before .before .before .args in
+    put-whole (a .buf .now) (a .at) _ _ (omega arith)
+
+pub put-u32-spec : {M : Type 1} → statement M
+put-u32-spec =
+    tie.close
+    (tie.spec
+    left-requires
+    returns
+    cast-buf
+    slice-write-buf
+    cast-buf-2
+    add-buf
+    slice-write-buf-2
+    cast-buf-3
+    add-buf-2
+    slice-write-buf-3
+    cast-buf-4
+    add-buf-3
+    slice-write-buf-4
+    add-result
+    same-length
+    returns-2)

@@ -1,0 +1,28 @@
+-- Numbers: little-endian, whatever the board.
+use Prim.Native.Nat.{ℕ, zero, suc, _+_, _*_, _/_, _%_, _^_}
+use mathlib.Core.Bool.{Bool}
+use mathlib.Core.List.{List, [], _∷_}
+use lib.Dec.{eqb}
+use Rattle.wire.specs.Reading.{Reader, field, give, _>>=_}
+
+-- the number that some bytes write, lowest byte first
+abbrev pub little : List ℕ → ℕ
+little [] = 0
+little (b ∷ bs) = b + 256 * little bs
+
+-- the bytes that write a number, as many as the width says
+abbrev pub littleBytes : ℕ → ℕ → List ℕ
+littleBytes zero v = []
+littleBytes (suc width) v = v % 256 ∷ littleBytes width (v / 256)
+
+abbrev pub number : ℕ → Reader ℕ
+number width = do
+  bytes ← field width
+  give (little bytes)
+
+-- some bits of a word as a number, and one bit as a test
+abbrev pub bits : ℕ → ℕ → ℕ → ℕ
+bits from many w = w / 2 ^ from % 2 ^ many
+
+abbrev pub bit : ℕ → ℕ → Bool
+bit k w = eqb (bits k 1 w) 1

@@ -1,0 +1,111 @@
+ghost use mathlib.Core.Path.{_≡_};
+ghost use Prim.Native.Nat.{_-_, _<_};
+ghost use Rattle.wire.specs.Numbers.{number};
+ghost use Rattle.wire.specs.Addresses.{address};
+ghost use Rattle.wire.specs.Answers.{saidU8, saidU16, saidU32, saidAddress, saidSize};
+ghost use Rattle.wire.specs.Asking.{placeOf};
+ghost use Rattle.wire.specs.Reading.{field};
+use crate::refusal::Refusal;
+
+// A number or an address with the place behind it, or why there is none.
+pub enum ReadU8 {
+    Read(u8, usize),
+    Refused(Refusal),
+}
+
+pub enum ReadU16 {
+    Read(u16, usize),
+    Refused(Refusal),
+}
+
+pub enum ReadU32 {
+    Read(u32, usize),
+    Refused(Refusal),
+}
+
+// Six bytes in the order of the wire. It holds no array, so that an enum can hold it.
+pub struct MACAddress(pub u8, pub u8, pub u8, pub u8, pub u8, pub u8);
+
+pub enum ReadAddress {
+    Read(MACAddress, usize),
+    Refused(Refusal),
+}
+
+// How many bytes something takes, or the place behind it, or why there is none.
+pub enum Size {
+    Bytes(usize),
+    Refused(Refusal),
+}
+
+// How many bytes stand from a place on: none where the place is past the end.
+pub(crate) fn left(len: usize, at: usize) -> usize
+    ensures { λ r. ⌜ r ≡ len - at ⌝ }
+{
+    if at <= len { len - at } else { 0 }
+}
+
+// A byte as a wider number. The bound spares each caller a proof that its sums fit.
+fn wide(x: u8) -> u32
+    ensures { λ r. ⌜ r ≡ x ⌝ }
+    ensures { λ r. ⌜ r < 256 ⌝ }
+{
+    x as u32
+}
+
+pub fn u8_at(s: &[u8], at: usize) -> ReadU8
+    ensures { λ r. ⌜ saidU8 r ≡ number 1 (now (s .entry)) at ⌝ }
+{
+    if left(s.len(), at) < 1 {
+        return ReadU8::Refused(Refusal::Short);
+    }
+    ReadU8::Read(s[at], at + 1)
+}
+
+pub fn u16_at(s: &[u8], at: usize) -> ReadU16
+    ensures { λ r. ⌜ saidU16 r ≡ number 2 (now (s .entry)) at ⌝ }
+{
+    if left(s.len(), at) < 2 {
+        return ReadU16::Refused(Refusal::Short);
+    }
+    let low = wide(s[at]);
+    let high = wide(s[at + 1]);
+    ReadU16::Read((low + 256 * high) as u16, at + 2)
+}
+
+pub fn u32_at(s: &[u8], at: usize) -> ReadU32
+    ensures { λ r. ⌜ saidU32 r ≡ number 4 (now (s .entry)) at ⌝ }
+{
+    if left(s.len(), at) < 4 {
+        return ReadU32::Refused(Refusal::Short);
+    }
+    let b0 = wide(s[at]);
+    let b1 = wide(s[at + 1]);
+    let b2 = wide(s[at + 2]);
+    let b3 = wide(s[at + 3]);
+    ReadU32::Read(b0 + 256 * (b1 + 256 * (b2 + 256 * b3)), at + 4)
+}
+
+// The place behind n bytes. It finds the shortage for a caller that takes the bytes as a part.
+pub fn field_at(s: &[u8], at: usize, n: usize) -> Size
+    ensures { λ r. ⌜ saidSize r ≡ placeOf (field n (now (s .entry)) at) ⌝ }
+{
+    if s.len() < at {
+        return Size::Refused(Refusal::Short);
+    }
+    if s.len() - at < n {
+        return Size::Refused(Refusal::Short);
+    }
+    Size::Bytes(at + n)
+}
+
+pub fn address_at(s: &[u8], at: usize) -> ReadAddress
+    ensures { λ r. ⌜ saidAddress r ≡ address (now (s .entry)) at ⌝ }
+{
+    if left(s.len(), at) < 6 {
+        return ReadAddress::Refused(Refusal::Short);
+    }
+    ReadAddress::Read(
+        MACAddress(s[at], s[at + 1], s[at + 2], s[at + 3], s[at + 4], s[at + 5]),
+        at + 6,
+    )
+}
