@@ -5,14 +5,48 @@ use channel_sequence::ChannelEncoding;
 use channel_sequence::ChannelSequence;
 use channel_sequence::Consistency;
 use channel_sequence::Corrected;
+use channel_sequence::Fixed;
+use channel_sequence::FixedSequence;
 use channel_sequence::ReadSequence;
+use wire::Place;
 use wire::Refusal;
 use wire::Size;
 
 // The even places hold flags, with and without bits that are dropped.
 const INPUT: [u8; 33] = [
-    0x00, 101, 0x01, 103, 0x02, 105, 0x03, 107, 0x3F, 109, 0x40, 111, 0x42, 113, 0xFF, 115, 0x00,
-    117, 0x01, 119, 0x02, 121, 0x03, 123, 0x3F, 125, 0x40, 127, 0x42, 129, 0xFF, 131, 0x00,
+    0x00,
+    101,
+    0x01,
+    103,
+    0x02,
+    105,
+    0x03,
+    107,
+    0x3F,
+    109,
+    0x40,
+    111,
+    0x42,
+    113,
+    0xFF,
+    115,
+    0x00,
+    117,
+    0x01,
+    119,
+    0x02,
+    121,
+    0x03,
+    123,
+    0x3F,
+    125,
+    0x40,
+    127,
+    0x42,
+    129,
+    0xFF,
+    131,
+    0x00,
 ];
 
 fn text(t: &[u8]) {
@@ -46,16 +80,34 @@ fn size(s: Size) {
     }
 }
 
-fn sequence(r: ReadSequence) {
-    let q = r.sequence;
+fn sequence(q: ChannelSequence) {
     let bytes = q.bytes;
-    let answer = r.answer;
-    size(answer);
     text(b" encoding ");
     number(q.encoding as u64);
     text(b" bytes ");
     hex(&bytes);
     text(b"\n");
+}
+
+// The place behind a sequence that was read from place 0 is its size.
+fn read_sequence(r: ReadSequence) {
+    let answer = r.answer;
+    match answer {
+        Place::At(next) => size(Size::Bytes(next)),
+        Place::Refused(why) => refused(why),
+    }
+    let q = r.sequence;
+    sequence(q);
+}
+
+fn fixed_sequence(r: FixedSequence) {
+    let q = r.sequence;
+    let answer = r.answer;
+    match answer {
+        Fixed::Made => size(q.size()),
+        Fixed::Refused(why) => refused(why),
+    }
+    sequence(q);
 }
 
 fn consistency(c: Consistency) {
@@ -109,7 +161,7 @@ fn legacy(flags: u8) {
 // Reads what stands from a place to the end of the first len bytes.
 fn read_part(s: &[u8], encoding: u8, len: usize, at: usize) {
     if len <= s.len() {
-        sequence(ChannelSequence::read(&s[..len], at, encoding));
+        read_sequence(ChannelSequence::read(&s[..len], at, encoding));
     }
 }
 
@@ -198,7 +250,7 @@ fn fix(encoding: u8, first: u8, second: u8) {
         first,
         second,
     };
-    sequence(ChannelSequence::fixed_channel_sequence(channel));
+    fixed_sequence(ChannelSequence::fixed_channel_sequence(channel));
 }
 
 fn sequences(encoding: u8) {

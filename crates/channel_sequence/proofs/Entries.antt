@@ -1,7 +1,7 @@
 -- How the tests and the keeping of flags go over a list from the front: what is left of the list decides, or is still to be kept.
 -- Assumes nothing.
-use Prim.Native.Nat.{ℕ, suc, _+_, _*_, _≤_, _<_}
-use native.Mathlib.Nat.{add-suc, add-zero, le-refl}
+use Prim.Native.Nat.{ℕ, zero, suc, _+_, _-_, _*_, _≤_, _<_}
+use native.Mathlib.Nat.{add-suc, add-zero, le-refl, sub-zero, zero-sub, suc-sub-suc}
 use native.Mathlib.Numerals.{add-one, add-two}
 use native.Mathlib.Omega.{arith}
 use mathlib.Core.Path.{_≡_, refl, sym, ap, _∙_}
@@ -9,15 +9,15 @@ use mathlib.Core.Bool.{Bool, true, false, _&&_}
 use mathlib.Core.List.{List, [], _∷_, _++_, append-assoc, append-nil}
 use lib.Dec.{eqb, leb}
 use lib.ListN.{length, getD, take, drop, set, replicate, length-set}
-use lib.Seq.{drop-cons, take-add, take-set-le, drop-set-lt, drop-set-add, take-suc-set}
-use Rattle.wire.specs.Asking.{Answer, answer, refusal}
-use Rattle.wire.specs.Writing.{Put}
+use lib.Seq.{drop-cons, take-add, take-set-le, drop-set-lt, drop-set-add, take-suc-set, length-take-le}
+use Rattle.wire.specs.Answer.{Answer, answer, refusal}
+use Rattle.wire.specs.Writing.{Put, lengthOf}
 use Rattle.wire.proofs.Stores.{put-all}
 use Rattle.channel_sequence.specs.declared.channel.ChannelEncoding.{ChannelEncoding}
 use Rattle.channel_sequence.specs.declared.channel.ChannelEncoding.the-variants.{Simple, Legacy, OpClass}
 use Rattle.channel_sequence.specs.declared.channel_sequence.ChannelSequence.{ChannelSequence}
 use Rattle.channel_sequence.specs.Channels.{encodingOf, entrySize, keptFlags}
-use Rattle.channel_sequence.specs.Sequences.{zeros, flagsKept, padded, times, sizeOf, bytesOf, consistentBytes}
+use Rattle.channel_sequence.specs.Sequences.{allZero, flagsFit, allFlagsFit, padded, times, sizeOf, bytesOf, consistentBytes}
 use Rattle.channel_sequence.specs.SequenceReader.{keptEntries}
 
 -- what stands from a place on begins with the byte there, and with the two there
@@ -29,11 +29,11 @@ two-at s i h =
     let second : drop (i + 1) s ≡ getD s (i + 1) 0 ∷ drop (i + 2) s = rw (drop-cons s (i + 1) 0 h, add-one i, add-two i) in
     rw (one-at s i (omega arith), second)
 
-pub zeros-step : (s : List ℕ) (i : ℕ) → i < length s → zeros (drop i s) ≡ eqb (getD s i 0) 0 && zeros (drop (i + 1) s)
-zeros-step s i h = rw (one-at s i h)
+pub zero-step : (s : List ℕ) (i : ℕ) → i < length s → allZero (drop i s) ≡ eqb (getD s i 0) 0 && allZero (drop (i + 1) s)
+zero-step s i h = rw (one-at s i h)
 
 pub flags-step : (s : List ℕ) (i : ℕ) → i + 1 < length s
-    → flagsKept (drop i s) ≡ leb (getD s i 0) 0x3F && flagsKept (drop (i + 2) s)
+    → allFlagsFit (drop i s) ≡ flagsFit (getD s i 0) && allFlagsFit (drop (i + 2) s)
 flags-step s i h = rw (two-at s i h)
 
 -- a turn keeps one entry's flags, and leaves the rest to be kept
@@ -55,12 +55,22 @@ keep-step s i h =
       append-assoc (take i s) (a ∷ getD s (i + 1) 0 ∷ []) (keptEntries (drop (i + 2) s)),
     )
 
--- the bytes on the wire, put over 32 zeros, are padded
-pub padded-over : (encoding : ChannelEncoding) {part : List ℕ} {next : ℕ} {t : List ℕ}
-    → length part ≡ 16 * entrySize encoding → Put (replicate 32 0) 0 part next t → t ≡ padded encoding part
-padded-over Simple {part} e p = put-all p (omega arith) .1 ∙ rw e
-padded-over Legacy {part} e p = put-all p (omega arith) .1 ∙ rw e (append-nil part)
-padded-over OpClass {part} e p = put-all p (omega arith) .1 ∙ rw e (append-nil part)
+zeros-behind : (n k : ℕ) → drop {A = ℕ} k (replicate n 0) ≡ replicate (n - k) 0
+zeros-behind n zero = rw (sub-zero n)
+zeros-behind zero (suc k) = rw (zero-sub (suc k))
+zeros-behind (suc n) (suc k) = zeros-behind n k ∙ rw (suc-sub-suc n k)
+
+-- bytes that were put over 32 zeros are padded
+pub padded-over : {part : List ℕ} {next : ℕ} {t : List ℕ} → length part ≤ 32 → Put (replicate 32 0) 0 part next t → t ≡ padded part
+padded-over {part} h p = put-all p h .1 ∙ ap (λ (z : List ℕ). part ++ z) (zeros-behind 32 (length part))
+
+pub padded-full : (bytes : List ℕ) → length bytes ≡ 32 → padded bytes ≡ bytes
+padded-full bytes e = rw e (append-nil bytes)
+
+pub length-kept : (s : List ℕ) → length (keptEntries s) ≡ length s
+length-kept [] = refl
+length-kept (flags ∷ []) = refl
+length-kept (flags ∷ channel ∷ rest) = ap (λ (n : ℕ). suc (suc n)) (length-kept rest)
 
 -- a turn that fills one entry, and leaves the rest to be filled
 pub fill-step : (s : List ℕ) (i a b n : ℕ) → i + 1 < length s →
@@ -100,5 +110,20 @@ size-most Simple = omega arith
 size-most Legacy = omega arith
 size-most OpClass = omega arith
 
-pub wire-bytes : {q : ChannelSequence} {n : ℕ} → Sized q n → bytesOf q ≡ take n (q .bytes)
-wire-bytes w = rw (w .found, w .size)
+pub wire-bytes : {q : ChannelSequence} {n : ℕ} → Sized q n → bytesOf q ≡ answer (take n (q .bytes))
+wire-bytes w = rw (w .found, w .consistent, w .size)
+
+-- the size is the number of bytes that are written
+pub size-length : (q : ChannelSequence) → length (q .bytes) ≡ 32 → lengthOf (bytesOf q) ≡ sizeOf q
+size-length q whole = go (encodingOf (q .encoding)) refl
+  where
+    settle : (encoding : ChannelEncoding) → encodingOf (q .encoding) ≡ answer encoding
+        → (b : Bool) → consistentBytes encoding (q .bytes) ≡ b → lengthOf (bytesOf q) ≡ sizeOf q
+    settle encoding f true h =
+        let most = size-most encoding in
+        rw (f, h) (ap answer (length-take-le (16 * entrySize encoding) (q .bytes) (omega arith)))
+    settle encoding f false h = rw (f, h)
+
+    go : (found : Answer ChannelEncoding) → encodingOf (q .encoding) ≡ found → lengthOf (bytesOf q) ≡ sizeOf q
+    go (answer encoding) f = settle encoding f (consistentBytes encoding (q .bytes)) refl
+    go (refusal why) f = rw f

@@ -3,13 +3,13 @@
 use Prim.Native.Nat.{ℕ}
 use mathlib.Core.Path.{_≡_, refl}
 use mathlib.Core.Bool.{Bool, cond}
-use Rattle.wire.specs.Asking.{Answer, answer, refusal}
+use Rattle.wire.specs.Answer.{Answer, answer, refusal}
 use Rattle.wire.proofs.Once.{once}
 use Rattle.channel_sequence.specs.declared.channel.ChannelEncoding.{ChannelEncoding}
 use Rattle.channel_sequence.specs.declared.channel.FoundEncoding.{FoundEncoding}
 use Rattle.channel_sequence.specs.declared.channel.Corrected.{Corrected}
 use Rattle.channel_sequence.specs.declared.channel_sequence.Consistency.{Consistency}
-use Rattle.channel_sequence.specs.Answers.{saidEncoding, saidCorrected, saidConsistent}
+use Rattle.channel_sequence.specs.Said.{saidEncoding, saidCorrected, saidConsistent}
 
 pub onceEncoding : {m : Answer ChannelEncoding} {a b : FoundEncoding} → saidEncoding a ≡ m → saidEncoding b ≡ m → a ≡ b
 onceEncoding =

@@ -1,71 +1,98 @@
 -- A consistent sequence fills exactly its size and reads back as itself, from any place and with anything behind; its reader keeps the laws of every reader.
 -- Assumes nothing.
-use Prim.Native.Nat.{ℕ, suc, _*_, _%_, _≤_}
-use native.Mathlib.Nat.{mod-eq-of-lt}
+use Prim.Native.Nat.{ℕ, _*_, _≤_}
+use native.Mathlib.Nat.{zero-add}
 use native.Mathlib.Omega.{arith}
 use mathlib.Core.Path.{_≡_, refl, sym, ap, ap₂, _∙_}
 use mathlib.Core.Bool.{Bool, true, false, _&&_}
 use mathlib.Core.List.{List, [], _∷_, _++_}
 use lib.Dec.{eqb, leb}
 use lib.ListN.{length, take, drop, replicate, length-drop, take-append-drop}
-use lib.Seq.{length-take-le, take-all}
-use borrow.Author.Tests.{leb-true, eqb-true}
-use Rattle.wire.specs.Asking.{answer}
+use lib.Seq.{length-take-le, take-all, drop-append-seam}
+use borrow.Author.Tests.{leb-true, le-leb, eqb-true}
+use Rattle.wire.specs.Reading.{read}
+use Rattle.wire.specs.Answer.{Answer, answer, refusal}
+use Rattle.wire.specs.Writing.{within, lengthOf, afterwards}
 use Rattle.wire.proofs.Lawful.{Lawful, bind-lawful, asked-lawful, made-lawful, field-lawful}
 use Rattle.wire.proofs.ReadsBack.{Back, bind-back, asked-back, made-back, field-back}
 use Rattle.channel_sequence.specs.declared.channel.ChannelEncoding.{ChannelEncoding}
 use Rattle.channel_sequence.specs.declared.channel.ChannelEncoding.the-variants.{Simple, Legacy, OpClass}
 use Rattle.channel_sequence.specs.declared.channel_sequence.ChannelSequence.{ChannelSequence}
 use Rattle.channel_sequence.specs.Channels.{encodingOf, entrySize, keptFlags}
-use Rattle.channel_sequence.specs.Sequences.{zeros, flagsKept, consistentBytes, sizeOf, bytesOf, padded}
-use Rattle.channel_sequence.specs.SequenceReader.{keptEntries, kept, sequenceIn, sequence}
-use Rattle.channel_sequence.proofs.Entries.{Sized, sized, size-most, wire-bytes}
+use Rattle.channel_sequence.specs.Sequences.{allZero, flagsFit, allFlagsFit, consistentBytes, consistent, sizeOf, bytesOf, padded}
+use Rattle.channel_sequence.specs.SequenceReader.{keptEntries, keptBytes, sequence}
+use Rattle.channel_sequence.proofs.Entries.{padded-full, size-most}
 
 -- both of two tests that hold together
 both : (a b : Bool) → (a && b) ≡ true → (a ≡ true) × (b ≡ true)
 both true b e = (refl, e)
 both false b e = absurd (let z : _≡_ {A = ℕ} 0 1 = cc in omega arith)
 
-all-zero : (s : List ℕ) → zeros s ≡ true → s ≡ replicate (length s) 0
+all-zero : (s : List ℕ) → allZero s ≡ true → s ≡ replicate (length s) 0
 all-zero [] e = refl
 all-zero (b ∷ rest) e =
-    let p = both (eqb b 0) (zeros rest) e in
+    let p = both (eqb b 0) (allZero rest) e in
     ap₂ (λ (x : ℕ) (xs : List ℕ). x ∷ xs) (eqb-true b 0 (p .0)) (all-zero rest (p .1))
 
-flags-same : (flags : ℕ) → leb flags 0x3F ≡ true → keptFlags flags ≡ flags
+flags-same : (flags : ℕ) → flagsFit flags ≡ true → keptFlags flags ≡ flags
 flags-same flags e = let small = leb-true flags 0x3F e in omega arith
 
-entries-same : (s : List ℕ) → flagsKept s ≡ true → keptEntries s ≡ s
+entries-same : (s : List ℕ) → allFlagsFit s ≡ true → keptEntries s ≡ s
 entries-same [] e = refl
 entries-same (flags ∷ []) e = ap (λ (x : ℕ). x ∷ []) (flags-same flags e)
 entries-same (flags ∷ channel ∷ rest) e =
-    let p = both (leb flags 0x3F) (flagsKept rest) e in
+    let p = both (flagsFit flags) (allFlagsFit rest) e in
     ap₂ (λ (x : ℕ) (xs : List ℕ). x ∷ channel ∷ xs) (flags-same flags (p .0)) (entries-same rest (p .1))
 
 -- what is read of the bytes of a consistent sequence is its 32 bytes
 restored : (encoding : ChannelEncoding) (bytes : List ℕ) → length bytes ≡ 32 → consistentBytes encoding bytes ≡ true
-    → padded encoding (kept encoding (take (16 * entrySize encoding) bytes)) ≡ bytes
+    → padded (keptBytes encoding (take (16 * entrySize encoding) bytes)) ≡ bytes
 restored Simple bytes whole e =
+    let front : length (take 16 bytes) ≡ 16 = length-take-le 16 bytes (omega arith) in
     let rest : length (drop 16 bytes) ≡ 16 = simp length-drop (omega arith) in
-    ap (λ (z : List ℕ). take 16 bytes ++ z) (sym (rw rest at (all-zero (drop 16 bytes) e))) ∙ take-append-drop 16 bytes
-restored Legacy bytes whole e = rw (take-all 32 bytes (omega arith)) (entries-same bytes e)
-restored OpClass bytes whole e = take-all 32 bytes (omega arith)
+    rw front
+    (ap (λ (z : List ℕ). take 16 bytes ++ z) (sym (rw rest at (all-zero (drop 16 bytes) e))) ∙ take-append-drop 16 bytes)
+restored Legacy bytes whole e =
+    rw (take-all 32 bytes (omega arith), entries-same bytes e) (padded-full bytes whole)
+restored OpClass bytes whole e = rw (take-all 32 bytes (omega arith)) (padded-full bytes whole)
 
--- the size is the number of bytes that are written, and these read back as the sequence
-pub round-trip : (q : ChannelSequence) {n : ℕ} → length (q .bytes) ≡ 32 → sizeOf q ≡ answer n
-    → (length (bytesOf q) ≡ n) × Back (sequence (q .encoding)) (bytesOf q) q
-round-trip q {n} whole e =
-    let w = sized q e in
-    let most = size-most (w .encoding) in
-    let many : length (take (16 * entrySize (w .encoding)) (q .bytes)) ≡ 16 * entrySize (w .encoding) =
-    length-take-le (16 * entrySize (w .encoding)) (q .bytes) (omega arith) in
-    let reads = made-back {B = ChannelSequence}
-    (λ bytes. record { encoding = q .encoding; bytes = padded (w .encoding) (kept (w .encoding) bytes) })
-    (field-back (16 * entrySize (w .encoding)) (take (16 * entrySize (w .encoding)) (q .bytes)) many) in
-    let same = restored (w .encoding) (q .bytes) whole (w .consistent) in (
-      rw (wire-bytes w, w .size) many,
-      rw (wire-bytes w, w .size)
-          (bind-back (λ encoding. sequenceIn encoding (q .encoding)) (asked-back (w .found)) (rw same at reads)),
+-- the bytes of a sequence: as many as its size says, and read back as the sequence
+pub record Filled (q : ChannelSequence) : Type 0 where
+  pub bytes : List ℕ
+  pub written : bytesOf q ≡ answer bytes
+  pub size : sizeOf q ≡ answer (length bytes)
+  pub back : Back (sequence (q .encoding)) bytes q
+
+pub round-trip : (q : ChannelSequence) → length (q .bytes) ≡ 32 → consistent q ≡ answer true → Filled q
+round-trip q whole e = go (encodingOf (q .encoding)) refl
+  where
+    go : (found : Answer ChannelEncoding) → encodingOf (q .encoding) ≡ found → Filled q
+    go (answer encoding) f =
+        let right : consistentBytes encoding (q .bytes) ≡ true = let e′ = rw f at e in cc in
+        let most = size-most encoding in
+        let size = 16 * entrySize encoding in
+        let part = take size (q .bytes) in
+        let many : length part ≡ size = length-take-le size (q .bytes) (omega arith) in
+        let reads = made-back {B = ChannelSequence}
+        (λ bytes. record { encoding = q .encoding; bytes = padded (keptBytes encoding bytes) })
+        (field-back size part many) in
+        record {
+          bytes = part;
+          written = rw (f, right);
+          size = rw (f, right, many);
+          back = bind-back _ (asked-back f) (rw (restored encoding (q .bytes) whole right) at reads);
+        }
+    go (refusal why) f = absurd (let e′ = rw f at e in let z : _≡_ {A = ℕ} 0 1 = cc in omega arith)
+
+-- a consistent sequence, written into enough room, reads back as itself, and what stood behind its size still stands there
+pub written-back : (q : ChannelSequence) (s : List ℕ) (w : Filled q) → length (w .bytes) ≤ length s
+    → let after : List ℕ = afterwards s (bytesOf q) (within (length s) (lengthOf (bytesOf q))) in
+    (sequence (q .encoding) after 0 ≡ read q (length (w .bytes))) × (drop (length (w .bytes)) after ≡ drop (length (w .bytes)) s)
+written-back q s w h =
+    let room : leb (length (w .bytes)) (length s) ≡ true = le-leb (length (w .bytes)) (length s) h in
+    let rest = drop (length (w .bytes)) s in (
+      rw (w .written, room) (w .back .back [] rest ∙ ap (read q) (zero-add (length (w .bytes)))),
+      rw (w .written, room) (drop-append-seam (w .bytes) rest),
     )
 
 pub sequence-lawful : (n : ℕ) → Lawful (sequence n)

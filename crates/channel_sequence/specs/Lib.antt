@@ -1,4 +1,7 @@
+-- Channels: encodings, flags and the corrected channel; Sequences: the sixteen entries; SequenceReader: how they are
+-- read; Said and Outcomes: what each answer of the code says, and the number and values that it stands for.
 pub mod Channels
 pub mod Sequences
 pub mod SequenceReader
-pub mod Answers
+pub mod Said
+pub mod Outcomes

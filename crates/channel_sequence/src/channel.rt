@@ -1,8 +1,9 @@
 ghost use mathlib.Core.Path.{_≡_};
-ghost use Rattle.wire.specs.Answers.{saidSize};
-ghost use Rattle.wire.specs.Numbers.{bits};
-ghost use Rattle.channel_sequence.specs.Channels.{encodingOf, entrySize, sizeOfEncoding, keptFlags, primary, corrected};
-ghost use Rattle.channel_sequence.specs.Answers.{saidEncoding, saidCorrected};
+ghost use Rattle.wire.specs.Said.{saidSize};
+ghost use Rattle.channel_sequence.specs.Channels.{encodingOf, entrySize, sizeOfEncoding};
+ghost use Rattle.channel_sequence.specs.Channels.{supportChannel, channelBandwidth, band, keptFlags};
+ghost use Rattle.channel_sequence.specs.Channels.{correctedLegacy, corrected};
+ghost use Rattle.channel_sequence.specs.Said.{saidEncoding, saidCorrected};
 use wire::Refusal;
 use wire::Size;
 
@@ -38,7 +39,7 @@ impl ChannelEncoding {
         FoundEncoding::Refused(Refusal::Encoding)
     }
 
-    // How many bytes one channel takes with this encoding.
+    // The bytes that one channel takes.
     pub fn entry_size(self) -> usize
         ensures { λ r. ⌜ r ≡ entrySize self ⌝ }
     {
@@ -66,36 +67,36 @@ pub struct LegacyFlags(pub u8);
 impl LegacyFlags {
     pub const KEEP: u8 = 0x3F;
 
-    // The flags without the bits that have no name.
+    // Bits without a name are dropped.
     pub fn from_bits(bits: u8) -> LegacyFlags
         ensures { λ r. ⌜ r .0 ≡ keptFlags bits ⌝ }
     {
-        LegacyFlags(bits % 64)
+        LegacyFlags(bits & LegacyFlags::KEEP)
     }
 
     // 1 is lower, 2 upper and 3 primary.
     pub fn support_channel(self) -> u8
-        ensures { λ r. ⌜ r ≡ bits 0 2 (self .0) ⌝ }
+        ensures { λ r. ⌜ r ≡ supportChannel (self .0) ⌝ }
     {
         self.0 % 4
     }
 
     // 1 is 20 MHz, 2 is 40 and 3 is 80.
     pub fn channel_bandwidth(self) -> u8
-        ensures { λ r. ⌜ r ≡ bits 2 2 (self .0) ⌝ }
+        ensures { λ r. ⌜ r ≡ channelBandwidth (self .0) ⌝ }
     {
         self.0 / 4 % 4
     }
 
     // 1 is 5 GHz and 2 is 2.4 GHz.
     pub fn band(self) -> u8
-        ensures { λ r. ⌜ r ≡ bits 4 2 (self .0) ⌝ }
+        ensures { λ r. ⌜ r ≡ band (self .0) ⌝ }
     {
         self.0 / 16 % 4
     }
 }
 
-// A channel as its encoding lays it down: the two bytes of an entry, the second 0 where there is none.
+// The two bytes of an entry. A simple channel has one, and its second is 0.
 pub struct Channel {
     pub encoding: u8,
     pub first: u8,
@@ -108,7 +109,7 @@ pub enum Corrected {
 }
 
 impl Channel {
-    // The channel independent of the encoding: a legacy channel as if its support channel were primary.
+    // What a report names: a legacy channel is moved to its primary one.
     pub fn channel(self) -> Corrected
         ensures { λ r. ⌜ saidCorrected r ≡ corrected self ⌝ }
     {
@@ -117,7 +118,10 @@ impl Channel {
         match ChannelEncoding::from_bits(self.encoding) {
             FoundEncoding::Known(known) => match known {
                 ChannelEncoding::Simple => Corrected::Channel(first),
-                ChannelEncoding::Legacy => Corrected::Channel(primary(LegacyFlags(first), second)),
+                ChannelEncoding::Legacy => Corrected::Channel(corrected_legacy(
+                    LegacyFlags(first),
+                    second,
+                )),
                 ChannelEncoding::OpClass => Corrected::Channel(first),
             },
             FoundEncoding::Refused(why) => Corrected::Refused(why),
@@ -126,8 +130,8 @@ impl Channel {
 }
 
 // A release build of the Rust counts modulo 256 here, and so do we.
-fn primary(flags: LegacyFlags, channel: u8) -> u8
-    ensures { λ r. ⌜ r ≡ primary (flags .0) channel ⌝ }
+fn corrected_legacy(flags: LegacyFlags, channel: u8) -> u8
+    ensures { λ r. ⌜ r ≡ correctedLegacy (flags .0) channel ⌝ }
 {
     let support = flags.support_channel();
     if support == 1 {

@@ -1,31 +1,43 @@
 ghost use mathlib.Core.Path.{_≡_};
-ghost use mathlib.Core.List.{_∷_, [], _++_};
+ghost use mathlib.Core.List.{_∷_, []};
 ghost use Prim.Native.Nat.{_*_};
-ghost use lib.ListN.{length, drop, replicate};
+ghost use lib.ListN.{length, drop};
 ghost use Rattle.wire.specs.Reading as Reading;
-ghost use Rattle.wire.specs.Asking.{answer};
-ghost use Rattle.wire.specs.Answers.{saidSize};
+ghost use Rattle.wire.specs.Answer.{refusal};
+ghost use Rattle.wire.specs.Said.{saidSize};
 ghost use Rattle.wire.specs.Writing.{Wrote};
 ghost use Rattle.channel_sequence.specs.Channels.{entrySize};
-ghost use Rattle.channel_sequence.specs.Sequences.{zeros, flagsKept, consistentBytes, consistent, sizeOf, bytesOf};
-ghost use Rattle.channel_sequence.specs.Sequences.{padded, times, entryOf, consistentEntry, fixedIn, fixed};
-ghost use Rattle.channel_sequence.specs.SequenceReader.{sequence, sequenceIn, keptEntries, kept};
-ghost use Rattle.channel_sequence.specs.Answers.{saidConsistent, readSequence};
+ghost use Rattle.channel_sequence.specs.Sequences.{allZero, allFlagsFit, consistentBytes, consistent, sizeOf, bytesOf};
+ghost use Rattle.channel_sequence.specs.Sequences.{padded, times, entryOf, consistentEntry, fixed};
+ghost use Rattle.channel_sequence.specs.SequenceReader.{sequence, keptEntries, keptBytes};
+ghost use Rattle.channel_sequence.specs.Said.{saidConsistent, sequenceRead, sequenceFixed};
 use crate::channel::Channel;
 use crate::channel::ChannelEncoding;
 use crate::channel::FoundEncoding;
+use crate::channel::LegacyFlags;
+use wire::Place;
 use wire::Refusal;
 use wire::Size;
 
-// Sixteen entries in one encoding. Of the 32 bytes those that the encoding does not use are 0.
+// Sixteen entries in one encoding. In a consistent sequence the bytes that the encoding does not use are 0.
 pub struct ChannelSequence {
     pub encoding: u8,
     pub bytes: [u8; 32],
 }
 
-// The place behind the sequence or the refusal, and the sequence or the zero sequence.
+// The place behind the sequence, or why there is none; the sequence is then the zero one.
 pub struct ReadSequence {
-    pub answer: Size,
+    pub answer: Place,
+    pub sequence: ChannelSequence,
+}
+
+pub enum Fixed {
+    Made,
+    Refused(Refusal),
+}
+
+pub struct FixedSequence {
+    pub answer: Fixed,
     pub sequence: ChannelSequence,
 }
 
@@ -37,10 +49,19 @@ pub enum Consistency {
 
 impl ChannelSequence {
     pub fn read(s: &[u8], at: usize, encoding: u8) -> ReadSequence
-        ensures { λ r. ⌜ r ≡ readSequence (sequence encoding (now (s .entry)) at) ⌝ }
+        ensures { λ r. ⌜ r ≡ sequenceRead (sequence encoding (now (s .entry)) at) ⌝ }
     {
         match ChannelEncoding::from_bits(encoding) {
-            FoundEncoding::Known(known) => read_known(s, at, encoding, known),
+            FoundEncoding::Known(known) => match wire::field_at(s, at, size_in(known)) {
+                Place::At(next) => {
+                    let bytes = held(known, &s[at..next]);
+                    ReadSequence {
+                        answer: Place::At(next),
+                        sequence: ChannelSequence { encoding, bytes },
+                    }
+                }
+                Place::Refused(why) => refused(why),
+            },
             FoundEncoding::Refused(why) => refused(why),
         }
     }
@@ -76,7 +97,7 @@ impl ChannelSequence {
     }
 
     pub fn write(self, buf: &mut [u8]) -> Size
-        ensures { λ r. ⌜ Wrote (now (buf .entry)) (bytesOf self) (sizeOf self) r (now (buf .exit)) ⌝ }
+        ensures { λ r. ⌜ Wrote (now (buf .entry)) (bytesOf self) (saidSize r) (now (buf .exit)) ⌝ }
     {
         let bytes = self.bytes;
         match wire::within(buf.len(), self.size()) {
@@ -88,13 +109,25 @@ impl ChannelSequence {
         }
     }
 
-    // One channel sixteen times, with the size of the sequence.
-    pub fn fixed_channel_sequence(channel: Channel) -> ReadSequence
-        ensures { λ r. ⌜ r ≡ readSequence (fixed channel) ⌝ }
+    // One channel sixteen times.
+    pub fn fixed_channel_sequence(channel: Channel) -> FixedSequence
+        ensures { λ r. ⌜ r ≡ sequenceFixed (fixed channel) ⌝ }
     {
-        match ChannelEncoding::from_bits(channel.encoding) {
-            FoundEncoding::Known(known) => fixed_known(channel, known),
-            FoundEncoding::Refused(why) => refused(why),
+        let encoding = channel.encoding;
+        let first = channel.first;
+        let second = channel.second;
+        match ChannelEncoding::from_bits(encoding) {
+            FoundEncoding::Known(known) => {
+                if consistent_entry(known, first, second) {
+                    let bytes = repeated(known, first, second);
+                    return FixedSequence {
+                        answer: Fixed::Made,
+                        sequence: ChannelSequence { encoding, bytes },
+                    };
+                }
+                not_fixed(Refusal::Inconsistent)
+            }
+            FoundEncoding::Refused(why) => not_fixed(why),
         }
     }
 }
@@ -111,10 +144,10 @@ fn size_in(known: ChannelEncoding) -> usize
 }
 
 fn refused(why: Refusal) -> ReadSequence
-    ensures { λ r. ⌜ r ≡ readSequence (Reading.refused why) ⌝ }
+    ensures { λ r. ⌜ r ≡ sequenceRead (Reading.refused why) ⌝ }
 {
     ReadSequence {
-        answer: Size::Refused(why),
+        answer: Place::Refused(why),
         sequence: ChannelSequence {
             encoding: 0,
             bytes: [0; 32],
@@ -122,25 +155,22 @@ fn refused(why: Refusal) -> ReadSequence
     }
 }
 
-fn read_known(s: &[u8], at: usize, encoding: u8, known: ChannelEncoding) -> ReadSequence
-    ensures { λ r. ⌜ r ≡ readSequence (sequenceIn known encoding (now (s .entry)) at) ⌝ }
+fn not_fixed(why: Refusal) -> FixedSequence
+    ensures { λ r. ⌜ r ≡ sequenceFixed (refusal why) ⌝ }
 {
-    match wire::field_at(s, at, size_in(known)) {
-        Size::Bytes(next) => {
-            let bytes = held(known, &s[at..next]);
-            ReadSequence {
-                answer: Size::Bytes(next),
-                sequence: ChannelSequence { encoding, bytes },
-            }
-        }
-        Size::Refused(why) => refused(why),
+    FixedSequence {
+        answer: Fixed::Refused(why),
+        sequence: ChannelSequence {
+            encoding: 0,
+            bytes: [0; 32],
+        },
     }
 }
 
 // The 32 bytes of a sequence from those on the wire.
 fn held(known: ChannelEncoding, part: &[u8]) -> [u8; 32]
     requires { ⌜ length (now part) ≡ 16 * entrySize known ⌝ }
-    ensures { λ r. ⌜ r ≡ padded known (kept known (now (part .entry))) ⌝ }
+    ensures { λ r. ⌜ r ≡ padded (keptBytes known (now (part .entry))) ⌝ }
 {
     let mut bytes = [0u8; 32];
     wire::put_slice(&mut bytes, 0, part);
@@ -157,7 +187,8 @@ fn kept_entries(bytes: [u8; 32]) -> [u8; 32]
     let mut kept = bytes;
     let mut i = 0;
     while i < 32 {
-        kept[i] = kept[i] % 64;
+        let flags = LegacyFlags::from_bits(kept[i]);
+        kept[i] = flags.0;
         i += 2;
     }
     kept
@@ -167,14 +198,15 @@ fn consistent_bytes(known: ChannelEncoding, bytes: [u8; 32]) -> bool
     ensures { λ r. ⌜ r ≡ consistentBytes known bytes ⌝ }
 {
     match known {
-        ChannelEncoding::Simple => zeros(bytes),
-        ChannelEncoding::Legacy => flags_kept(bytes),
+        ChannelEncoding::Simple => all_zero(bytes),
+        ChannelEncoding::Legacy => all_flags_fit(bytes),
         ChannelEncoding::OpClass => true,
     }
 }
 
-fn zeros(bytes: [u8; 32]) -> bool
-    ensures { λ r. ⌜ r ≡ zeros (drop 16 bytes) ⌝ }
+// Looks at the bytes that a simple sequence does not use.
+fn all_zero(bytes: [u8; 32]) -> bool
+    ensures { λ r. ⌜ r ≡ allZero (drop 16 bytes) ⌝ }
 {
     let mut i = 16;
     while i < 32 {
@@ -186,12 +218,12 @@ fn zeros(bytes: [u8; 32]) -> bool
     true
 }
 
-fn flags_kept(bytes: [u8; 32]) -> bool
-    ensures { λ r. ⌜ r ≡ flagsKept bytes ⌝ }
+fn all_flags_fit(bytes: [u8; 32]) -> bool
+    ensures { λ r. ⌜ r ≡ allFlagsFit bytes ⌝ }
 {
     let mut i = 0;
     while i < 32 {
-        if 0x3F < bytes[i] {
+        if LegacyFlags::KEEP < bytes[i] {
             return false;
         }
         i += 2;
@@ -199,34 +231,18 @@ fn flags_kept(bytes: [u8; 32]) -> bool
     true
 }
 
-fn fixed_known(channel: Channel, known: ChannelEncoding) -> ReadSequence
-    ensures { λ r. ⌜ r ≡ readSequence (fixedIn (answer known) channel) ⌝ }
-{
-    let encoding = channel.encoding;
-    let first = channel.first;
-    let second = channel.second;
-    if consistent_entry(known, first, second) {
-        let bytes = repeated(known, first, second);
-        return ReadSequence {
-            answer: Size::Bytes(size_in(known)),
-            sequence: ChannelSequence { encoding, bytes },
-        };
-    }
-    refused(Refusal::Inconsistent)
-}
-
 fn consistent_entry(known: ChannelEncoding, first: u8, second: u8) -> bool
     ensures { λ r. ⌜ r ≡ consistentEntry known first second ⌝ }
 {
     match known {
         ChannelEncoding::Simple => second == 0,
-        ChannelEncoding::Legacy => first <= 0x3F,
+        ChannelEncoding::Legacy => first <= LegacyFlags::KEEP,
         ChannelEncoding::OpClass => true,
     }
 }
 
 fn repeated(known: ChannelEncoding, first: u8, second: u8) -> [u8; 32]
-    ensures { λ r. ⌜ r ≡ padded known (times 16 (entryOf known first second)) ⌝ }
+    ensures { λ r. ⌜ r ≡ padded (times 16 (entryOf known first second)) ⌝ }
 {
     match known {
         ChannelEncoding::Simple => singles(first),
@@ -236,7 +252,7 @@ fn repeated(known: ChannelEncoding, first: u8, second: u8) -> [u8; 32]
 }
 
 fn singles(channel: u8) -> [u8; 32]
-    ensures { λ r. ⌜ r ≡ times 16 (channel ∷ []) ++ replicate 16 0 ⌝ }
+    ensures { λ r. ⌜ r ≡ padded (times 16 (channel ∷ [])) ⌝ }
 {
     let entries = [channel; 16];
     let mut bytes = [0u8; 32];
@@ -245,7 +261,7 @@ fn singles(channel: u8) -> [u8; 32]
 }
 
 fn pairs(first: u8, second: u8) -> [u8; 32]
-    ensures { λ r. ⌜ r ≡ times 16 (first ∷ second ∷ []) ⌝ }
+    ensures { λ r. ⌜ r ≡ padded (times 16 (first ∷ second ∷ [])) ⌝ }
 {
     let mut bytes = [0u8; 32];
     let mut i = 0;

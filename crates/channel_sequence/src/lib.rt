@@ -9,4 +9,6 @@ pub use channel::FoundEncoding;
 pub use channel::LegacyFlags;
 pub use channel_sequence::ChannelSequence;
 pub use channel_sequence::Consistency;
+pub use channel_sequence::Fixed;
+pub use channel_sequence::FixedSequence;
 pub use channel_sequence::ReadSequence;

@@ -13,7 +13,8 @@ use borrow.Author.Tests.{le-leb, lt-leb, leb-true}
 use Rattle.wire.specs.declared.refusal.Refusal.{Refusal}
 use Rattle.wire.specs.declared.refusal.Refusal.the-variants.{Short}
 use Rattle.wire.specs.Reading.{Reading, read, refused, field}
-use Rattle.wire.specs.Asking.{Answer, answer, refusal, placeOf, within}
+use Rattle.wire.specs.Answer.{Answer, answer, refusal, placeOf}
+use Rattle.wire.specs.Writing.{within}
 use Rattle.wire.specs.Numbers.{little, number}
 
 -- n bytes, the first of them k behind a place

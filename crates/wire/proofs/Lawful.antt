@@ -14,7 +14,7 @@ use borrow.Author.Tests.{le-leb, lt-leb, leb-true}
 use Rattle.wire.specs.declared.refusal.Refusal.{Refusal}
 use Rattle.wire.specs.declared.refusal.Refusal.the-variants.{Short}
 use Rattle.wire.specs.Reading.{Reading, Reader, read, refused, give, refuse, field, onward, _>>=_, when}
-use Rattle.wire.specs.Asking.{Answer, answer, refusal, asked}
+use Rattle.wire.specs.Answer.{Answer, answer, refusal, asked}
 use Rattle.wire.specs.Numbers.{little, number}
 use Rattle.wire.specs.Addresses.{addressOf, address}
 

@@ -7,10 +7,11 @@ use Rattle.wire.specs.declared.read.ReadU8.{ReadU8}
 use Rattle.wire.specs.declared.read.ReadU16.{ReadU16}
 use Rattle.wire.specs.declared.read.ReadU32.{ReadU32}
 use Rattle.wire.specs.declared.read.ReadAddress.{ReadAddress}
-use Rattle.wire.specs.declared.read.Size.{Size}
+use Rattle.wire.specs.declared.read.Place.{Place}
+use Rattle.wire.specs.declared.write.Size.{Size}
 use Rattle.wire.specs.Reading.{Reading, read, refused}
-use Rattle.wire.specs.Asking.{Answer, answer, refusal}
-use Rattle.wire.specs.Answers.{saidU8, saidU16, saidU32, saidAddress, saidSize}
+use Rattle.wire.specs.Answer.{Answer, answer, refusal}
+use Rattle.wire.specs.Said.{saidU8, saidU16, saidU32, saidAddress, saidPlace, saidSize}
 
 -- two answers of which the same was said, by a saying that can be undone, are one
 pub once : {A B : Type 0} (said : A → B) (undo : B → A) → ((a : A) → undo (said a) ≡ a) → {m : B} {a b : A} → said a ≡ m → said b ≡ m → a ≡ b
@@ -35,6 +36,11 @@ pub onceAddress : {m : Reading MACAddress} {a b : ReadAddress} → saidAddress a
 onceAddress =
     once saidAddress (elim [ read v next ↦ ReadAddress.Read v next | refused why ↦ ReadAddress.Refused why ])
     (elim [ ReadAddress.Read v next ↦ refl | ReadAddress.Refused why ↦ refl ])
+
+pub oncePlace : {m : Answer ℕ} {a b : Place} → saidPlace a ≡ m → saidPlace b ≡ m → a ≡ b
+oncePlace =
+    once saidPlace (elim [ answer next ↦ Place.At next | refusal why ↦ Place.Refused why ])
+    (elim [ Place.At next ↦ refl | Place.Refused why ↦ refl ])
 
 pub onceSize : {m : Answer ℕ} {a b : Size} → saidSize a ≡ m → saidSize b ≡ m → a ≡ b
 onceSize =

@@ -12,7 +12,7 @@ use lib.Seq.{drop-append-seam, take-append-seam}
 use borrow.Author.Tests.{le-leb}
 use Rattle.wire.specs.declared.read.MACAddress.{MACAddress}
 use Rattle.wire.specs.Reading.{Reading, Reader, read, give, field, _>>=_, when}
-use Rattle.wire.specs.Asking.{Answer, answer, asked}
+use Rattle.wire.specs.Answer.{Answer, answer, asked}
 use Rattle.wire.specs.Numbers.{little, littleBytes, number}
 use Rattle.wire.specs.Addresses.{address, addressOf, addressBytes}
 

@@ -12,9 +12,8 @@ use lib.ListN.{length, take, drop, set, length-set, length-append, length-take, 
 use lib.Seq.{sets, sets-eq, paste, paste-zero, take-length, take-at, drop-append-add, drop-drop}
 use borrow.Author.Tests.{le-leb, lt-leb, leb-false}
 use Rattle.wire.specs.declared.refusal.Refusal.{Refusal}
-use Rattle.wire.specs.declared.read.Size.{Size}
-use Rattle.wire.specs.Asking.{Answer, answer, refusal, within}
-use Rattle.wire.specs.Writing.{room, putting, behind, Put, Wrote}
+use Rattle.wire.specs.Answer.{Answer, answer, refusal}
+use Rattle.wire.specs.Writing.{fits, putting, behind, Put, within, lengthOf, Wrote}
 
 -- bytes stored one after the other, the first of them k behind a place
 abbrev pub over : List ℕ → ℕ → ℕ → List ℕ → List ℕ
@@ -29,24 +28,24 @@ pub put-whole : (s : List ℕ) (at b : ℕ) (bs : List ℕ) → suc (length bs) 
     → Put s at (b ∷ bs) (at + suc (length bs)) (over (set s at b) at 1 bs)
 put-whole s at b bs h =
     let inside : at + suc (length bs) ≤ length s = omega arith in
-    let fits : room s at (b ∷ bs) ≡ true = le-leb (at + suc (length bs)) (length s) inside in
+    let room : fits s at (b ∷ bs) ≡ true = le-leb (at + suc (length bs)) (length s) inside in
     record {
-      place = rw fits;
-      buffer = rw (fits, ← sets-eq (b ∷ bs) s at inside) (over-sets (set s at b) at 1 bs ∙ rw add-one);
+      place = rw room;
+      buffer = rw (room, ← sets-eq (b ∷ bs) s at inside) (over-sets (set s at b) at 1 bs ∙ rw add-one);
     }
 
 pub put-none : (s : List ℕ) (at : ℕ) (bytes : List ℕ) → length s - at < length bytes → Put s at bytes at s
 put-none s at bytes h =
     let past : length s < at + length bytes = omega arith in
-    let full : room s at bytes ≡ false = lt-leb (at + length bytes) (length s) past in
+    let full : fits s at bytes ≡ false = lt-leb (at + length bytes) (length s) past in
     record { place = rw full; buffer = rw full }
 
 -- the whole of a slice, copied byte after byte
 pub put-pasted : (s : List ℕ) (at : ℕ) (bytes : List ℕ) → length bytes ≤ length s - at
     → Put s at bytes (at + length bytes) (paste s at bytes (length bytes))
-put-pasted s at bytes h = go (room s at bytes) refl
+put-pasted s at bytes h = go (fits s at bytes) refl
   where
-    go : (b : Bool) → room s at bytes ≡ b → Put s at bytes (at + length bytes) (paste s at bytes (length bytes))
+    go : (b : Bool) → fits s at bytes ≡ b → Put s at bytes (at + length bytes) (paste s at bytes (length bytes))
     go true e = record { place = rw e; buffer = rw (e, take-length bytes) }
     go false e =
         let past : length s < at + length bytes = leb-false (at + length bytes) (length s) e in
@@ -57,9 +56,9 @@ put-pasted s at bytes h = go (room s at bytes) refl
 pub put-fits : {s : List ℕ} {at : ℕ} {bytes : List ℕ} {next : ℕ} {t : List ℕ} → Put s at bytes next t → at + length bytes ≤ length s
     → (next ≡ at + length bytes) × (t ≡ take at s ++ bytes ++ drop (at + length bytes) s) × (length t ≡ length s)
 put-fits {s} {at} {bytes} p h =
-    let fits : room s at bytes ≡ true = le-leb (at + length bytes) (length s) h in
-    let laid = rw fits at (p .buffer) in (
-      rw fits at (p .place),
+    let room : fits s at bytes ≡ true = le-leb (at + length bytes) (length s) h in
+    let laid = rw room at (p .buffer) in (
+      rw room at (p .place),
       laid,
       rw laid (simp (length-append, length-take, length-drop) (omega arith)),
     )
@@ -67,8 +66,8 @@ put-fits {s} {at} {bytes} p h =
 -- no byte, where a field is absent
 pub put-empty : (s : List ℕ) (at : ℕ) → at ≤ length s → Put s at [] at s
 put-empty s at h =
-    let fits : room s at [] ≡ true = le-leb (at + 0) (length s) (omega arith) in
-    record { place = rw (fits, add-zero at); buffer = rw (fits, add-zero at, append-nil (take at s)) (sym (take-append-drop at s)) }
+    let room : fits s at [] ≡ true = le-leb (at + 0) (length s) (omega arith) in
+    record { place = rw (room, add-zero at); buffer = rw (room, add-zero at, append-nil (take at s)) (sym (take-append-drop at s)) }
 
 -- one run behind another is both at once
 pub put-then : {s : List ℕ} {at : ℕ} {xs : List ℕ} {mid : ℕ} {t : List ℕ} {ys : List ℕ} {next : ℕ} {u : List ℕ}
@@ -83,10 +82,10 @@ put-then {s} {at} {xs} {mid} {t} {ys} {next} {u} p q h =
     let behind : drop (mid + length ys) t ≡ drop (at + (length xs + length ys)) s =
     rw (first .1, ← head, ← add-assoc at (length xs) (length ys))
     (drop-append-add front rest (length ys) ∙ drop-drop (length ys) (at + length xs) s) in
-    let fits : room s at (xs ++ ys) ≡ true = le-leb (at + length (xs ++ ys)) (length s) (simp length-append (omega arith)) in
+    let room : fits s at (xs ++ ys) ≡ true = le-leb (at + length (xs ++ ys)) (length s) (simp length-append (omega arith)) in
     record {
-      place = rw (fits, length-append xs ys) (omega arith);
-      buffer = rw (fits, length-append xs ys, second .1, kept, behind, append-assoc (take at s) xs ys);
+      place = rw (room, length-append xs ys) (omega arith);
+      buffer = rw (room, length-append xs ys, second .1, kept, behind, append-assoc (take at s) xs ys);
     }
 
 -- a record's bytes at the start of a buffer that has room for them
@@ -97,13 +96,14 @@ put-all {s} {bytes} p h =
     (laid .0 ∙ zero-add (length bytes), rw (zero-add (length bytes)) at (laid .1))
 
 -- a writer that put all of its bytes into a buffer with room for them
-pub wrote-all : {s bytes : List ℕ} {next : ℕ} {t : List ℕ} (n : ℕ) → Put s 0 bytes next t → length bytes ≡ n → n ≤ length s
-    → Wrote s bytes (answer n) (Size.Bytes n) t
-wrote-all {s} {bytes} n p e h =
-    let fits : leb n (length s) ≡ true = le-leb n (length s) h in
-    record { said = rw fits; buffer = rw (fits, ← e) (put-all p (omega arith) .1) }
+pub wrote-all : {s bytes : List ℕ} {next : ℕ} {t : List ℕ} {n : ℕ} → Put s 0 bytes next t → length bytes ≡ n → n ≤ length s
+    → Wrote s (answer bytes) (answer n) t
+wrote-all {s} {bytes} {n = n} p e h =
+    let room : leb n (length s) ≡ true = le-leb n (length s) h in
+    record { size = rw (e, room); buffer = rw (e, room, ← e) (put-all p (omega arith) .1) }
 
 -- a writer that refused, and wrote nothing
-pub wrote-none : {s bytes : List ℕ} {size : Answer ℕ} {why : Refusal} → refusal why ≡ within (length s) size
-    → Wrote s bytes size (Size.Refused why) s
-wrote-none e = record { said = e; buffer = rw (← e) }
+pub wrote-none : (s : List ℕ) (bytes : Answer (List ℕ)) {why : Refusal} → refusal why ≡ within (length s) (lengthOf bytes)
+    → Wrote s bytes (refusal why) s
+wrote-none s (answer b) e = record { size = e; buffer = rw (← e) }
+wrote-none s (refusal why) e = record { size = e; buffer = refl }

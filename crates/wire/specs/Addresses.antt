@@ -12,6 +12,9 @@ addressOf b =
 abbrev pub addressBytes : MACAddress → List ℕ
 addressBytes a = a .0 ∷ a .1 ∷ a .2 ∷ a .3 ∷ a .4 ∷ a .5 ∷ []
 
+abbrev pub zeroAddress : MACAddress
+zeroAddress = record { 0 = 0; 1 = 0; 2 = 0; 3 = 0; 4 = 0; 5 = 0 }
+
 abbrev pub address : Reader MACAddress
 address = do
   bytes ← field 6

@@ -1,8 +1,11 @@
+-- Refusals and their numbers; Reading, the words for formats; Answer, the words for calls that read nothing;
+-- Numbers and Addresses, the two kinds of field; Writing, what a buffer holds afterwards; Said, what each enum of
+-- the code says; Outcomes, the number and the values that it stands for.
 pub mod Refusals
 pub mod Reading
+pub mod Answer
 pub mod Numbers
 pub mod Addresses
-pub mod Asking
-pub mod Answers
 pub mod Writing
+pub mod Said
 pub mod Outcomes

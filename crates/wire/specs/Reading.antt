@@ -7,12 +7,12 @@ use lib.ListN.{length, take, drop}
 use Rattle.wire.specs.declared.refusal.Refusal.{Refusal}
 use Rattle.wire.specs.declared.refusal.Refusal.the-variants.{Short}
 
--- a value with the place behind it, or a refusal
+-- what a reader finds: a value and the place where the next one starts, or why there is none
 pub data Reading (A : Type 0) : Type 0 where
   read : A → ℕ → Reading A
   refused : Refusal → Reading A
 
--- what stands in some bytes from a place on
+-- a reader is given all the bytes and the place at which it starts
 abbrev pub Reader : Type 0 → Type 0
 Reader A = List ℕ → ℕ → Reading A
 
@@ -23,20 +23,21 @@ give a s at = read a at
 abbrev pub refuse : {A : Type 0} → Refusal → Reader A
 refuse why s at = refused why
 
--- n bytes as they stand, or short where the list ends before the last
+-- the next n bytes; a list that ends before the last of them, or before the place, is short
 abbrev pub field : ℕ → Reader (List ℕ)
 field n s at = cond (leb (at + n) (length s)) (read (take n (drop at s)) (at + n)) (refused Short)
 
--- one reader behind the other; the first refusal is the answer
+-- what was read is handed on, and a refusal ends it
 abbrev pub onward : {A B : Type 0} → Reading A → (A → ℕ → Reading B) → Reading B
 onward (read a next) f = f a next
 onward (refused why) f = refused why
 
+-- one reader behind the other
 infixl 20 _>>=_
 abbrev pub _>>=_ : {A B : Type 0} → Reader A → (A → Reader B) → Reader B
 _>>=_ m f s at = onward (m s at) (λ a next. f a s next)
 
--- a field that is there only where a test holds, and the value that stands for it where it is not
+-- a field that is there only where a test holds, and what stands for it elsewhere
 abbrev pub when : {A : Type 0} → Bool → A → Reader A → Reader A
 when true absent r = r
 when false absent r = give absent

@@ -2,8 +2,8 @@ ghost use mathlib.Core.Path.{_≡_};
 ghost use Prim.Native.Nat.{_-_, _<_};
 ghost use Rattle.wire.specs.Numbers.{number};
 ghost use Rattle.wire.specs.Addresses.{address};
-ghost use Rattle.wire.specs.Answers.{saidU8, saidU16, saidU32, saidAddress, saidSize};
-ghost use Rattle.wire.specs.Asking.{placeOf};
+ghost use Rattle.wire.specs.Said.{saidU8, saidU16, saidU32, saidAddress, saidPlace};
+ghost use Rattle.wire.specs.Answer.{placeOf};
 ghost use Rattle.wire.specs.Reading.{field};
 use crate::refusal::Refusal;
 
@@ -31,9 +31,9 @@ pub enum ReadAddress {
     Refused(Refusal),
 }
 
-// How many bytes something takes, or the place behind it, or why there is none.
-pub enum Size {
-    Bytes(usize),
+// The place behind something, or why there is none.
+pub enum Place {
+    At(usize),
     Refused(Refusal),
 }
 
@@ -86,16 +86,16 @@ pub fn u32_at(s: &[u8], at: usize) -> ReadU32
 }
 
 // The place behind n bytes. It finds the shortage for a caller that takes the bytes as a part.
-pub fn field_at(s: &[u8], at: usize, n: usize) -> Size
-    ensures { λ r. ⌜ saidSize r ≡ placeOf (field n (now (s .entry)) at) ⌝ }
+pub fn field_at(s: &[u8], at: usize, n: usize) -> Place
+    ensures { λ r. ⌜ saidPlace r ≡ placeOf (field n (now (s .entry)) at) ⌝ }
 {
     if s.len() < at {
-        return Size::Refused(Refusal::Short);
+        return Place::Refused(Refusal::Short);
     }
     if s.len() - at < n {
-        return Size::Refused(Refusal::Short);
+        return Place::Refused(Refusal::Short);
     }
-    Size::Bytes(at + n)
+    Place::At(at + n)
 }
 
 pub fn address_at(s: &[u8], at: usize) -> ReadAddress

@@ -3,14 +3,23 @@ ghost use Rattle.wire.specs.Refusals.{numberOf};
 
 // Why a call refuses. Every crate answers with one of these.
 pub enum Refusal {
+    // The input ends before a byte that is needed.
     Short,
+    // The frame's first byte is there and is not 0x08.
     NotAction,
+    // The frame's second byte is there and is not 0x10.
     NotVersion,
+    // A unicast length is neither 4 nor 8.
     UnicastLength,
+    // A channel encoding is none of the three.
     Encoding,
+    // The lent buffer is shorter than what is to be written.
     NoRoom,
+    // The record is not consistent.
     Inconsistent,
+    // An item's value is longer than its length field can say.
     TooLong,
+    // A sending stamp is below the hand-over stamp.
     SentBeforeHandOver,
 }
 

@@ -1,17 +1,22 @@
 ghost use mathlib.Core.Path.{_≡_};
-ghost use Rattle.wire.specs.Answers.{saidSize};
-ghost use Rattle.wire.specs.Asking as Asking;
 ghost use Rattle.wire.specs.Numbers.{littleBytes};
 ghost use Rattle.wire.specs.Addresses.{addressBytes};
+ghost use Rattle.wire.specs.Said.{saidSize};
+ghost use Rattle.wire.specs.Writing as Writing;
 ghost use Rattle.wire.specs.Writing.{Put};
 use crate::read::MACAddress;
-use crate::read::Size;
 use crate::read::left;
 use crate::refusal::Refusal;
 
+// How many bytes something takes on the wire, or why it cannot be written.
+pub enum Size {
+    Bytes(usize),
+    Refused(Refusal),
+}
+
 // The size of what is to be written into a room of len bytes. A writer asks it before its first store.
 pub fn within(len: usize, size: Size) -> Size
-    ensures { λ r. ⌜ saidSize r ≡ Asking.within len (saidSize size) ⌝ }
+    ensures { λ r. ⌜ saidSize r ≡ Writing.within len (saidSize size) ⌝ }
 {
     match size {
         Size::Bytes(n) => {

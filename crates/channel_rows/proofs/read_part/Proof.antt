@@ -13,8 +13,8 @@ slice-aggregate-read c = sym (length-take-le _ _ (omega arith))
 read-requires : tie.Need-read-requires
 read-requires c κs = search needs
 
-sequence-requires : tie.Need-sequence-requires
-sequence-requires c κs = search needs
+read-sequence-requires : tie.Need-read-sequence-requires
+read-sequence-requires c κs = search needs
 
 returns : tie.Need-returns
 returns c = search needs
@@ -24,4 +24,5 @@ returns-2 c = search needs
 
 pub read-part-spec : {M : Type 1} → statement M
 read-part-spec =
-    tie.close (tie.spec slice-aggregate-read read-requires sequence-requires returns returns-2)
+    tie.close
+    (tie.spec slice-aggregate-read read-requires read-sequence-requires returns returns-2)

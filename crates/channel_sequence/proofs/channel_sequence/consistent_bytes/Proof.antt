@@ -7,23 +7,23 @@ use borrow.Author.Needs.{needs}
 enum-told : tie.Need-enum-told
 enum-told c = search needs
 
-zeros-requires : tie.Need-zeros-requires
-zeros-requires c κs = search needs
+all-zero-requires : tie.Need-all-zero-requires
+all-zero-requires c κs = search needs
 
 enum-told-2 : tie.Need-enum-told-2
 enum-told-2 c = search needs
 
-flags-kept-requires : tie.Need-flags-kept-requires
-flags-kept-requires c κs = search needs
+all-flags-fit-requires : tie.Need-all-flags-fit-requires
+all-flags-fit-requires c κs = search needs
 
 enum-told-3 : tie.Need-enum-told-3
 enum-told-3 c = search needs
 
 returns : tie.Need-returns
-returns c = rw (c .before .enum-told .given .1) (c .zeros .ensures)
+returns c = rw (c .before .enum-told .given .1) (c .all-zero .ensures)
 
 returns-2 : tie.Need-returns-2
-returns-2 c = rw (c .before .enum-told2 .given .1) (c .flags-kept .ensures)
+returns-2 c = rw (c .before .enum-told2 .given .1) (c .all-flags-fit .ensures)
 
 returns-3 : tie.Need-returns-3
 returns-3 c = search needs
@@ -33,9 +33,9 @@ consistent-bytes-spec =
     tie.close
     (tie.spec
     enum-told
-    zeros-requires
+    all-zero-requires
     enum-told-2
-    flags-kept-requires
+    all-flags-fit-requires
     enum-told-3
     returns
     returns-2

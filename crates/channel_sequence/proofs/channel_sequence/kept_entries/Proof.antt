@@ -21,8 +21,11 @@ abbrev μ-loop : tie.MeasureT-loop
 loop-holds : tie.Need-loop-holds Inv-loop μ-loop
 loop-holds c = (search needs, omega arith, omega arith, refl)
 
-array-read-kept : tie.Need-array-read-kept Inv-loop μ-loop
-array-read-kept c = omega arith
+array-read-from-bits : tie.Need-array-read-from-bits Inv-loop μ-loop
+array-read-from-bits c = omega arith
+
+from-bits-requires : tie.Need-from-bits-requires Inv-loop μ-loop
+from-bits-requires c κs = tt
 
 array-write-kept : tie.Need-array-write-kept Inv-loop μ-loop
 array-write-kept c = omega arith
@@ -35,9 +38,13 @@ loop-less c = omega arith
 
 loop-again : tie.Need-loop-again Inv-loop μ-loop
 loop-again c =
-    let kept = c .before .loop .kept in
-    let i = c .before .loop .i in
-    (simp length-set (omega arith), omega arith, omega arith, keep-step kept i (omega arith) ∙ c .before .loop .inv .3)
+    let kept = c .before .before .loop .kept in
+    let i = c .before .before .loop .i in (
+      simp length-set (omega arith),
+      omega arith,
+      omega arith,
+      rw (c .from-bits .ensures) (keep-step kept i (omega arith) ∙ c .before .before .loop .inv .3),
+    )
 
 returns : tie.Need-returns Inv-loop μ-loop
 returns c =
@@ -56,7 +63,8 @@ kept-entries-spec =
     Inv-loop
     μ-loop
     loop-holds
-    array-read-kept
+    array-read-from-bits
+    from-bits-requires
     array-write-kept
     add-i
     loop-less

@@ -5,7 +5,7 @@ use Rattle.channel_sequence.proofs.Entries.{fill-step}
 use Rattle.channel_sequence.proofs.channel_sequence.pairs.Statement.{statement}
 use Rattle.channel_sequence.proofs.channel_sequence.pairs.Tie as tie
 use Rattle.channel_sequence.specs.Sequences.{times}
-use lib.ListN.{length, take, drop, length-set}
+use lib.ListN.{length, take, length-set}
 use lib.Seq.{take-all}
 use mathlib.Core.List.{_++_, _∷_, [], append-nil}
 use mathlib.Core.Path.{_≡_, refl, sym, _∙_}
@@ -52,7 +52,6 @@ loop-again c =
 returns : tie.Need-returns Inv-loop μ-loop
 unfolding times
 returns c =
-    let a = c .before .before .args in
     let bytes = c .before .loop .bytes in
     let i = c .before .loop .i in
     let none : (32 - i) / 2 ≡ 0 = omega arith in

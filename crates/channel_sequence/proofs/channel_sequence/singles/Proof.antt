@@ -1,9 +1,9 @@
 -- `singles` meets its contract: the entries that were copied over zeros are padded.
 -- Assumes nothing.
+use Rattle.channel_sequence.proofs.Entries.{padded-over}
 use Rattle.channel_sequence.proofs.channel_sequence.singles.Statement.{statement}
 use Rattle.channel_sequence.proofs.channel_sequence.singles.Tie as tie
 use Rattle.channel_sequence.specs.Sequences.{times}
-use Rattle.wire.proofs.Stores.{put-all}
 use borrow.Author.Needs.{needs}
 use native.Mathlib.Omega.{arith}
 
@@ -18,7 +18,7 @@ put-slice-requires c κs = search needs
 
 returns : tie.Need-returns
 unfolding times
-returns c = put-all (c .before .put-slice .ensures) (omega arith) .1
+returns c = padded-over (omega arith) (c .before .put-slice .ensures)
 
 pub singles-spec : {M : Type 1} → statement M
 singles-spec =

@@ -2,7 +2,7 @@
 -- Assumes nothing.
 use Rattle.channel_sequence.proofs.channel.Channel.channel.Statement.{statement}
 use Rattle.channel_sequence.proofs.channel.Channel.channel.Tie as tie
-use Rattle.channel_sequence.specs.Answers.{saidEncoding}
+use Rattle.channel_sequence.specs.Said.{saidEncoding}
 use borrow.Author.Needs.{needs}
 use mathlib.Core.Path.{sym, ap, _∙_}
 
@@ -18,8 +18,8 @@ enum-told c = search needs
 enum-told-2 : tie.Need-enum-told-2
 enum-told-2 c = search needs
 
-primary-requires : tie.Need-primary-requires
-primary-requires c κs = search needs
+corrected-legacy-requires : tie.Need-corrected-legacy-requires
+corrected-legacy-requires c κs = search needs
 
 enum-told-3 : tie.Need-enum-told-3
 enum-told-3 c = search needs
@@ -31,7 +31,7 @@ returns : tie.Need-returns
 returns c = rw (sym (c .before .before .before .before .before .from-bits .ensures) ∙ ap saidEncoding (c .before .before .before .known .given .1), c .enum-told .given .1)
 
 returns-2 : tie.Need-returns-2
-returns-2 c = rw (sym (c .before .before .before .before .before .before .from-bits .ensures) ∙ ap saidEncoding (c .before .before .before .before .known .given .1), c .before .enum-told2 .given .1, c .primary .ensures)
+returns-2 c = rw (sym (c .before .before .before .before .before .before .from-bits .ensures) ∙ ap saidEncoding (c .before .before .before .before .known .given .1), c .before .enum-told2 .given .1, c .corrected-legacy .ensures)
 
 returns-3 : tie.Need-returns-3
 returns-3 c = rw (sym (c .before .before .before .before .before .from-bits .ensures) ∙ ap saidEncoding (c .before .before .before .known .given .1), c .enum-told3 .given .1)
@@ -47,7 +47,7 @@ channel-spec =
     enum-known-known
     enum-told
     enum-told-2
-    primary-requires
+    corrected-legacy-requires
     enum-told-3
     enum-known-why
     returns

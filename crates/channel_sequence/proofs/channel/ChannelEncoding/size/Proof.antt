@@ -2,7 +2,7 @@
 -- Assumes nothing.
 use Rattle.channel_sequence.proofs.channel.ChannelEncoding.size.Statement.{statement}
 use Rattle.channel_sequence.proofs.channel.ChannelEncoding.size.Tie as tie
-use Rattle.channel_sequence.specs.Answers.{saidEncoding}
+use Rattle.channel_sequence.specs.Said.{saidEncoding}
 use borrow.Author.Needs.{needs}
 use mathlib.Core.Path.{sym, ap, _∙_}
 

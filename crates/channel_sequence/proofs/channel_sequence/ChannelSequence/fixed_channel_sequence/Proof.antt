@@ -1,8 +1,8 @@
--- `ChannelSequence::fixed_channel_sequence` meets its contract: the encoding that was found, or the refusal, is that of `encodingOf`.
+-- `ChannelSequence::fixed_channel_sequence` meets its contract: the encoding is that of `encodingOf`, and the test of the entry that of `consistentEntry`.
 -- Assumes nothing.
 use Rattle.channel_sequence.proofs.channel_sequence.ChannelSequence.fixed_channel_sequence.Statement.{statement}
 use Rattle.channel_sequence.proofs.channel_sequence.ChannelSequence.fixed_channel_sequence.Tie as tie
-use Rattle.channel_sequence.specs.Answers.{saidEncoding}
+use Rattle.channel_sequence.specs.Said.{saidEncoding}
 use borrow.Author.Needs.{needs}
 use mathlib.Core.Path.{sym, ap, _∙_}
 
@@ -12,20 +12,29 @@ from-bits-requires c κs = search needs
 enum-known-known : tie.Need-enum-known-known
 enum-known-known c = search needs
 
-fixed-known-requires : tie.Need-fixed-known-requires
-fixed-known-requires c κs = search needs
+consistent-entry-requires : tie.Need-consistent-entry-requires
+consistent-entry-requires c κs = search needs
+
+repeated-requires : tie.Need-repeated-requires
+repeated-requires c κs = search needs
+
+returns : tie.Need-returns
+returns c = rw (sym (c .before .before .before .before .before .before .from-bits .ensures) ∙ ap saidEncoding (c .before .before .before .before .known .given .1), ← c .before .before .consistent-entry .ensures, c .before .if1 .taken, c .repeated .ensures)
+
+not-fixed-requires : tie.Need-not-fixed-requires
+not-fixed-requires c κs = search needs
 
 enum-known-why : tie.Need-enum-known-why
 enum-known-why c = search needs
 
-refused-requires : tie.Need-refused-requires
-refused-requires c κs = search needs
-
-returns : tie.Need-returns
-returns c = rw (sym (c .before .before .before .before .from-bits .ensures) ∙ ap saidEncoding (c .before .before .known .given .1)) (c .fixed-known .ensures)
+not-fixed-requires-2 : tie.Need-not-fixed-requires-2
+not-fixed-requires-2 c κs = search needs
 
 returns-2 : tie.Need-returns-2
-returns-2 c = rw (sym (c .before .before .before .before .from-bits .ensures) ∙ ap saidEncoding (c .before .before .why .given .1)) (c .refused .ensures)
+returns-2 c = rw (sym (c .before .before .before .before .before .before .from-bits .ensures) ∙ ap saidEncoding (c .before .before .before .before .known .given .1), ← c .before .before .consistent-entry .ensures, c .before .if1 .left) (c .not-fixed .ensures)
+
+returns-3 : tie.Need-returns-3
+returns-3 c = rw (sym (c .before .before .before .before .from-bits .ensures) ∙ ap saidEncoding (c .before .before .why .given .1)) (c .not-fixed2 .ensures)
 
 pub fixed-channel-sequence-spec : {M : Type 1} → statement M
 fixed-channel-sequence-spec =
@@ -33,8 +42,11 @@ fixed-channel-sequence-spec =
     (tie.spec
     from-bits-requires
     enum-known-known
-    fixed-known-requires
-    enum-known-why
-    refused-requires
+    consistent-entry-requires
+    repeated-requires
     returns
-    returns-2)
+    not-fixed-requires
+    enum-known-why
+    not-fixed-requires-2
+    returns-2
+    returns-3)

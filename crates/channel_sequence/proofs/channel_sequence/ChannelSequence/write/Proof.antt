@@ -1,16 +1,16 @@
 -- `ChannelSequence::write` meets its contract: what is put is the bytes on the wire, after the size and the room were settled.
 -- Assumes nothing.
 use Prim.Native.Nat.{_≤_}
-use Rattle.channel_sequence.proofs.Entries.{sized, size-most, wire-bytes}
+use Rattle.channel_sequence.proofs.Entries.{sized, size-most, wire-bytes, size-length}
 use Rattle.channel_sequence.proofs.channel_sequence.ChannelSequence.write.Statement.{statement}
 use Rattle.channel_sequence.proofs.channel_sequence.ChannelSequence.write.Tie as tie
-use Rattle.channel_sequence.specs.Sequences.{sizeOf}
+use Rattle.channel_sequence.specs.Sequences.{sizeOf, bytesOf}
 use Rattle.wire.proofs.Bytes.{within-room}
 use Rattle.wire.proofs.Stores.{wrote-all, wrote-none}
-use Rattle.wire.specs.Answers.{saidSize}
-use Rattle.wire.specs.Asking.{answer}
+use Rattle.wire.specs.Answer.{answer}
+use Rattle.wire.specs.Said.{saidSize}
 use borrow.Author.Needs.{needs}
-use lib.ListN.{length, take}
+use lib.ListN.{length}
 use lib.Seq.{length-take-le}
 use mathlib.Core.Path.{_≡_, sym, ap, _∙_}
 use native.Mathlib.Omega.{arith}
@@ -59,12 +59,14 @@ returns : tie.Need-returns
 returns c =
     let room = settled (c .before .before .before .before .before) in
     let part = length-take-le (c .before .before .before .before .before .before .n .given .0 .0) (c .before .before .before .before .before .before .before .before .before .before .before .before .args .self .bytes) (whole (c .before .before .before .before .before)) in
-    rw (wire-bytes (sized (c .before .before .before .before .before .before .before .before .before .before .before .before .args .self) (room .0)), room .0) (wrote-all _ (c .before .before .put-slice .ensures) part (room .1))
+    rw (wire-bytes (sized (c .before .before .before .before .before .before .before .before .before .before .before .before .args .self) (room .0))) (wrote-all (c .before .before .put-slice .ensures) part (room .1))
 
 returns-2 : tie.Need-returns-2
 returns-2 c =
+    let a = c .before .before .before .before .before .before .before .args in
     let said = ap saidSize (sym (c .before .why .given .1)) ∙ c .before .before .before .within .ensures in
-    wrote-none (rw (c .before .before .before .before .size .ensures) at said)
+    let same = size-length (a .self) (search needs) in
+    wrote-none (a .buf .now) (bytesOf (a .self)) (rw (c .before .before .before .before .size .ensures, ← same) at said)
 
 pub write-spec : {M : Type 1} → statement M
 write-spec =

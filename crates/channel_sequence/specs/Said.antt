@@ -1,15 +1,17 @@
--- What each answer says.
+-- What each answer of the code says.
 use Prim.Native.Nat.{ℕ}
 use mathlib.Core.Bool.{Bool, true, false}
-use Rattle.wire.specs.declared.read.Size.{Size}
+use Rattle.wire.specs.declared.read.Place.{Place}
 use Rattle.wire.specs.Reading.{Reading, read, refused}
-use Rattle.wire.specs.Asking.{Answer, answer, refusal}
+use Rattle.wire.specs.Answer.{Answer, answer, refusal}
 use Rattle.channel_sequence.specs.declared.channel.ChannelEncoding.{ChannelEncoding}
 use Rattle.channel_sequence.specs.declared.channel.FoundEncoding.{FoundEncoding}
 use Rattle.channel_sequence.specs.declared.channel.Corrected.{Corrected}
 use Rattle.channel_sequence.specs.declared.channel_sequence.ChannelSequence.{ChannelSequence}
 use Rattle.channel_sequence.specs.declared.channel_sequence.Consistency.{Consistency}
 use Rattle.channel_sequence.specs.declared.channel_sequence.ReadSequence.{ReadSequence}
+use Rattle.channel_sequence.specs.declared.channel_sequence.Fixed.{Fixed}
+use Rattle.channel_sequence.specs.declared.channel_sequence.FixedSequence.{FixedSequence}
 use Rattle.channel_sequence.specs.Sequences.{zeroSequence}
 
 abbrev pub saidEncoding : FoundEncoding → Answer ChannelEncoding
@@ -25,7 +27,12 @@ saidConsistent Consistency.Yes = answer true
 saidConsistent Consistency.No = answer false
 saidConsistent (Consistency.Refused why) = refusal why
 
--- a sequence holds an array, so its answer is a struct: the size or the refusal, beside the sequence or the zero sequence
-abbrev pub readSequence : Reading ChannelSequence → ReadSequence
-readSequence (read q next) = record { answer = Size.Bytes next; sequence = q }
-readSequence (refused why) = record { answer = Size.Refused why; sequence = zeroSequence }
+-- A sequence holds an array, so the enum stands beside it. These two go the other way: from what is said to the one
+-- struct that says it, with the zero sequence on a refusal.
+abbrev pub sequenceRead : Reading ChannelSequence → ReadSequence
+sequenceRead (read q next) = record { answer = Place.At next; sequence = q }
+sequenceRead (refused why) = record { answer = Place.Refused why; sequence = zeroSequence }
+
+abbrev pub sequenceFixed : Answer ChannelSequence → FixedSequence
+sequenceFixed (answer q) = record { answer = Fixed.Made; sequence = q }
+sequenceFixed (refusal why) = record { answer = Fixed.Refused why; sequence = zeroSequence }

@@ -1,18 +1,18 @@
--- `zeros` meets its contract: what is left of the unused bytes decides, and a byte that is not 0 settles it.
+-- `all_zero` meets its contract: what is left of the unused bytes decides, and a byte that is not 0 settles it.
 -- Assumes nothing.
 use Prim.Native.Nat.{_≤_, _-_}
-use Rattle.channel_sequence.proofs.Entries.{zeros-step}
-use Rattle.channel_sequence.proofs.channel_sequence.zeros.Statement.{statement}
-use Rattle.channel_sequence.proofs.channel_sequence.zeros.Tie as tie
-use Rattle.channel_sequence.specs.Sequences.{zeros}
+use Rattle.channel_sequence.proofs.Entries.{zero-step}
+use Rattle.channel_sequence.proofs.channel_sequence.all_zero.Statement.{statement}
+use Rattle.channel_sequence.proofs.channel_sequence.all_zero.Tie as tie
+use Rattle.channel_sequence.specs.Sequences.{allZero}
 use borrow.Author.Needs.{needs}
 use borrow.Author.Tests.{eq-eqb, ne-eqb}
 use lib.ListN.{length, getD, drop, drop-of-length-le}
-use mathlib.Core.Path.{_≡_, refl, sym, _∙_}
+use mathlib.Core.Path.{_≡_, refl}
 use native.Mathlib.Omega.{arith}
 
 abbrev Inv-loop : tie.InvT-loop
-Inv-loop bytes i₀ i = (length bytes ≡ 32) × (i ≤ 32) × (zeros (drop i bytes) ≡ zeros (drop 16 bytes))
+Inv-loop bytes i₀ i = (length bytes ≡ 32) × (i ≤ 32) × (allZero (drop i bytes) ≡ allZero (drop 16 bytes))
 
 abbrev μ-loop : tie.MeasureT-loop
 μ-loop bytes i₀ i = 32 - i
@@ -27,7 +27,7 @@ returns : tie.Need-returns Inv-loop μ-loop
 returns c =
     let bytes = c .before .before .before .args .t1 in
     let i = c .before .before .loop .i in
-    rw (← c .before .before .loop .inv .2, zeros-step bytes i (omega arith), ne-eqb (getD bytes i 0) 0 (c .if1 .taken))
+    rw (← c .before .before .loop .inv .2, zero-step bytes i (omega arith), ne-eqb (getD bytes i 0) 0 (c .if1 .taken))
 
 add-i : tie.Need-add-i Inv-loop μ-loop
 add-i c = omega arith
@@ -39,13 +39,13 @@ loop-again : tie.Need-loop-again Inv-loop μ-loop
 loop-again c =
     let bytes = c .before .before .before .args .t1 in
     let i = c .before .before .loop .i in
-    (omega arith, omega arith, rw (← c .before .before .loop .inv .2, zeros-step bytes i (omega arith), eq-eqb (getD bytes i 0) 0 (c .if1 .left)))
+    (omega arith, omega arith, rw (← c .before .before .loop .inv .2, zero-step bytes i (omega arith), eq-eqb (getD bytes i 0) 0 (c .if1 .left)))
 
 returns-2 : tie.Need-returns-2 Inv-loop μ-loop
 returns-2 c = rw (← c .before .loop .inv .2, drop-of-length-le (c .before .before .args .t1) {i = c .before .loop .i} (omega arith))
 
-pub zeros-spec : {M : Type 1} → statement M
-zeros-spec =
+pub all-zero-spec : {M : Type 1} → statement M
+all-zero-spec =
     tie.close
     (tie.spec
     Inv-loop

@@ -1,18 +1,18 @@
--- `flags_kept` meets its contract: what is left of the entries decides, and flags above 0x3F settle it.
+-- `all_flags_fit` meets its contract: what is left of the entries decides, and flags above the mask settle it.
 -- Assumes nothing.
 use Prim.Native.Nat.{_≤_, _-_, _%_}
 use Rattle.channel_sequence.proofs.Entries.{flags-step}
-use Rattle.channel_sequence.proofs.channel_sequence.flags_kept.Statement.{statement}
-use Rattle.channel_sequence.proofs.channel_sequence.flags_kept.Tie as tie
-use Rattle.channel_sequence.specs.Sequences.{flagsKept}
+use Rattle.channel_sequence.proofs.channel_sequence.all_flags_fit.Statement.{statement}
+use Rattle.channel_sequence.proofs.channel_sequence.all_flags_fit.Tie as tie
+use Rattle.channel_sequence.specs.Sequences.{allFlagsFit}
 use borrow.Author.Needs.{needs}
 use borrow.Author.Tests.{le-leb, lt-leb}
 use lib.ListN.{length, getD, drop, drop-of-length-le}
-use mathlib.Core.Path.{_≡_, refl, sym, _∙_}
+use mathlib.Core.Path.{_≡_, refl}
 use native.Mathlib.Omega.{arith}
 
 abbrev Inv-loop : tie.InvT-loop
-Inv-loop bytes i₀ i = (length bytes ≡ 32) × (i ≤ 32) × (i % 2 ≡ 0) × (flagsKept (drop i bytes) ≡ flagsKept bytes)
+Inv-loop bytes i₀ i = (length bytes ≡ 32) × (i ≤ 32) × (i % 2 ≡ 0) × (allFlagsFit (drop i bytes) ≡ allFlagsFit bytes)
 
 abbrev μ-loop : tie.MeasureT-loop
 μ-loop bytes i₀ i = 32 - i
@@ -44,8 +44,8 @@ loop-again c =
 returns-2 : tie.Need-returns-2 Inv-loop μ-loop
 returns-2 c = rw (← c .before .loop .inv .3, drop-of-length-le (c .before .before .args .t1) {i = c .before .loop .i} (omega arith))
 
-pub flags-kept-spec : {M : Type 1} → statement M
-flags-kept-spec =
+pub all-flags-fit-spec : {M : Type 1} → statement M
+all-flags-fit-spec =
     tie.close
     (tie.spec
     Inv-loop

@@ -1,11 +1,10 @@
--- `primary` meets its contract: a wrapped difference or sum is the remainder by 256.
+-- `corrected_legacy` meets its contract: a wrapped difference or sum is the remainder by 256.
 -- Assumes nothing.
-use Rattle.channel_sequence.proofs.channel.primary.Statement.{statement}
-use Rattle.channel_sequence.proofs.channel.primary.Tie as tie
-use Rattle.wire.specs.Numbers.{bits}
+use Rattle.channel_sequence.proofs.channel.corrected_legacy.Statement.{statement}
+use Rattle.channel_sequence.proofs.channel.corrected_legacy.Tie as tie
+use Rattle.channel_sequence.specs.Channels.{supportChannel}
 use borrow.Author.Needs.{needs}
 use borrow.Author.Tests.{eq-eqb, ne-eqb}
-use mathlib.Core.Path.{_≡_}
 use native.Mathlib.Omega.{arith}
 
 support-channel-requires : tie.Need-support-channel-requires
@@ -17,7 +16,7 @@ wrapping-sub-u8-requires c κs = search needs
 returns : tie.Need-returns
 returns c =
     let flags = c .before .before .before .args .flags .0 in
-    rw (eq-eqb (bits 0 2 flags) 1 (omega arith)) (omega arith)
+    rw (eq-eqb (supportChannel flags) 1 (omega arith)) (omega arith)
 
 wrapping-add-u8-requires : tie.Need-wrapping-add-u8-requires
 wrapping-add-u8-requires c κs = search needs
@@ -25,15 +24,15 @@ wrapping-add-u8-requires c κs = search needs
 returns-2 : tie.Need-returns-2
 returns-2 c =
     let flags = c .before .before .before .before .args .flags .0 in
-    rw (ne-eqb (bits 0 2 flags) 1 (omega arith), eq-eqb (bits 0 2 flags) 2 (omega arith)) (omega arith)
+    rw (ne-eqb (supportChannel flags) 1 (omega arith), eq-eqb (supportChannel flags) 2 (omega arith)) (omega arith)
 
 returns-3 : tie.Need-returns-3
 returns-3 c =
     let flags = c .before .before .before .args .flags .0 in
-    rw (ne-eqb (bits 0 2 flags) 1 (omega arith), ne-eqb (bits 0 2 flags) 2 (omega arith))
+    rw (ne-eqb (supportChannel flags) 1 (omega arith), ne-eqb (supportChannel flags) 2 (omega arith))
 
-pub primary-spec : {M : Type 1} → statement M
-primary-spec =
+pub corrected-legacy-spec : {M : Type 1} → statement M
+corrected-legacy-spec =
     tie.close
     (tie.spec
     support-channel-requires

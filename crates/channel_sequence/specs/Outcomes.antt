@@ -1,0 +1,42 @@
+-- The number and the values that each answer stands for.
+use Prim.Native.Nat.{ℕ}
+use mathlib.Core.Bool.{Bool, false}
+use Rattle.wire.specs.declared.read.Place.{Place}
+use Rattle.wire.specs.Reading.{Reading, read, refused}
+use Rattle.wire.specs.Answer.{Answer, answer, refusal}
+use Rattle.wire.specs.Outcomes.{Outcome, outcome, Result, result}
+use Rattle.channel_sequence.specs.declared.channel.ChannelEncoding.{ChannelEncoding}
+use Rattle.channel_sequence.specs.declared.channel.ChannelEncoding.the-variants.{Simple}
+use Rattle.channel_sequence.specs.declared.channel.FoundEncoding.{FoundEncoding}
+use Rattle.channel_sequence.specs.declared.channel.Corrected.{Corrected}
+use Rattle.channel_sequence.specs.declared.channel_sequence.ChannelSequence.{ChannelSequence}
+use Rattle.channel_sequence.specs.declared.channel_sequence.Consistency.{Consistency}
+use Rattle.channel_sequence.specs.declared.channel_sequence.ReadSequence.{ReadSequence}
+use Rattle.channel_sequence.specs.declared.channel_sequence.Fixed.{Fixed}
+use Rattle.channel_sequence.specs.declared.channel_sequence.FixedSequence.{FixedSequence}
+use Rattle.channel_sequence.specs.Sequences.{zeroSequence}
+use Rattle.channel_sequence.specs.Said.{saidEncoding, saidCorrected, saidConsistent}
+
+-- the zero encoding is the one whose number is 0
+abbrev pub resultEncoding : FoundEncoding → Result ChannelEncoding
+resultEncoding r = result Simple (saidEncoding r)
+
+abbrev pub resultCorrected : Corrected → Result ℕ
+resultCorrected r = result 0 (saidCorrected r)
+
+abbrev pub resultConsistent : Consistency → Result Bool
+resultConsistent r = result false (saidConsistent r)
+
+abbrev pub placed : Place → ChannelSequence → Reading ChannelSequence
+placed (Place.At next) q = read q next
+placed (Place.Refused why) q = refused why
+
+abbrev pub outcomeSequence : ℕ → ReadSequence → Outcome ChannelSequence
+outcomeSequence at r = outcome zeroSequence at (placed (r .answer) (r .sequence))
+
+abbrev pub made : Fixed → ChannelSequence → Answer ChannelSequence
+made Fixed.Made q = answer q
+made (Fixed.Refused why) q = refusal why
+
+abbrev pub resultFixed : FixedSequence → Result ChannelSequence
+resultFixed r = result zeroSequence (made (r .answer) (r .sequence))
