@@ -4,7 +4,7 @@ use Prim.Native.Nat.{ℕ, _*_, _≤_}
 use native.Mathlib.Nat.{zero-add}
 use native.Mathlib.Omega.{arith}
 use mathlib.Core.Path.{_≡_, refl, sym, ap, ap₂, _∙_}
-use mathlib.Core.Bool.{Bool, true, false, _&&_}
+use mathlib.Core.Bool.{true}
 use mathlib.Core.List.{List, [], _∷_, _++_}
 use lib.Dec.{eqb, leb}
 use lib.ListN.{length, take, drop, replicate, length-drop, take-append-drop}
@@ -14,6 +14,7 @@ use Rattle.wire.specs.Reading.{read}
 use Rattle.wire.specs.Answer.{Answer, answer, refusal}
 use Rattle.wire.specs.Writing.{within, lengthOf, afterwards}
 use Rattle.wire.proofs.Lawful.{Lawful, bind-lawful, asked-lawful, made-lawful, field-lawful}
+use Rattle.wire.proofs.Tests.{both}
 use Rattle.wire.proofs.ReadsBack.{Back, bind-back, asked-back, made-back, field-back}
 use Rattle.channel_sequence.specs.declared.channel.ChannelEncoding.{ChannelEncoding}
 use Rattle.channel_sequence.specs.declared.channel.ChannelEncoding.the-variants.{Simple, Legacy, OpClass}
@@ -22,11 +23,6 @@ use Rattle.channel_sequence.specs.Channels.{encodingOf, entrySize, keptF
 use Rattle.channel_sequence.specs.Sequences.{allZero, flagsFit, allFlagsFit, consistentBytes, consistent, sizeOf, bytesOf, padded}
 use Rattle.channel_sequence.specs.SequenceReader.{keptEntries, keptBytes, sequence}
 use Rattle.channel_sequence.proofs.Entries.{padded-full, size-most}
-
--- both of two tests that hold together
-both : (a b : Bool) → (a && b) ≡ true → (a ≡ true) × (b ≡ true)
-both true b e = (refl, e)
-both false b e = absurd (let z : _≡_ {A = ℕ} 0 1 = cc in omega arith)
 
 all-zero : (s : List ℕ) → allZero s ≡ true → s ≡ replicate (length s) 0
 all-zero [] e = refl

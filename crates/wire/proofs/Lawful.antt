@@ -1,15 +1,15 @@
 -- What every reader keeps, proved once for each way of putting readers together: a format's own reader keeps it because its parts do.
 -- Assumes nothing.
-use Prim.Native.Nat.{ℕ, _+_, _≤_, _<_, min}
+use Prim.Native.Nat.{ℕ, _+_, _≤_, _<_, zero-le, min}
 use native.Mathlib.Omega.{arith}
 use native.Mathlib.Decide.{decLe}
 use mathlib.Core.Logic.{dite}
 use mathlib.Core.Path.{_≡_, refl, sym, ap, _∙_}
 use mathlib.Core.Bool.{Bool, true, false, cond}
-use mathlib.Core.List.{List}
+use mathlib.Core.List.{List, _++_}
 use lib.Dec.{leb}
 use lib.ListN.{length, take, drop, length-take}
-use lib.Seq.{length-take-le, take-take, take-add, drop-at}
+use lib.Seq.{length-take-le, take-take, take-add, take-append-le, drop-at}
 use borrow.Author.Tests.{le-leb, lt-leb, leb-true}
 use Rattle.wire.specs.declared.refusal.Refusal.{Refusal}
 use Rattle.wire.specs.declared.refusal.Refusal.the-variants.{Short}
@@ -90,13 +90,13 @@ field-lawful n =
     }
 
 -- what was read by one reader behind another: what the first gave, and where
-record Steps {A B : Type 0} (r : Reading A) (f : A → ℕ → Reading B) (b : B) (next : ℕ) : Type 0 where
-  first : A
-  mid : ℕ
-  begins : r ≡ read first mid
-  goes : f first mid ≡ read b next
+pub record Steps {A B : Type 0} (r : Reading A) (f : A → ℕ → Reading B) (b : B) (next : ℕ) : Type 0 where
+  pub first : A
+  pub mid : ℕ
+  pub begins : r ≡ read first mid
+  pub goes : f first mid ≡ read b next
 
-steps : {A B : Type 0} (r : Reading A) (f : A → ℕ → Reading B) {b : B} {next : ℕ} → onward r f ≡ read b next → Steps r f b next
+pub steps : {A B : Type 0} (r : Reading A) (f : A → ℕ → Reading B) {b : B} {next : ℕ} → onward r f ≡ read b next → Steps r f b next
 steps (read a mid) f e = record { first = a; mid = mid; begins = refl; goes = e }
 steps (refused why) f e = absurd (never e)
 
@@ -141,3 +141,17 @@ number-lawful width = made-lawful little (field-lawful width)
 
 pub address-lawful : Lawful address
 address-lawful = made-lawful addressOf (field-lawful 6)
+
+pub cond-lawful : {A : Type 0} {r t : Reader A} (b : Bool) → Lawful r → Lawful t → Lawful (cond b r t)
+cond-lawful true l m = l
+cond-lawful false l m = m
+
+-- what was read from the start is read with more bytes behind it, and cut below its size it is short
+pub grown : {A : Type 0} {r : Reader A} → Lawful r → (s more : List ℕ) {a : A} {n : ℕ} → r s 0 ≡ read a n → r (s ++ more) 0 ≡ read a n
+grown l s more e =
+    let within = l .ahead zero-le e in
+    l .local zero-le e (sym (take-append-le _ s more (within .1)))
+
+pub cut-short : {A : Type 0} {r : Reader A} → Lawful r → (s : List ℕ) {a : A} {n k : ℕ} → r s 0 ≡ read a n → k < n
+    → r (take k s) 0 ≡ refused Short
+cut-short l s e h = l .cut zero-le e zero-le h

@@ -1,5 +1,9 @@
 pub mod Lawful
 pub mod ReadsBack
+pub mod Gives
+pub mod Again
 pub mod Once
 pub mod Bytes
 pub mod Stores
+pub mod Words
+pub mod Tests

@@ -46,3 +46,7 @@ pub onceSize : {m : Answer ℕ} {a b : Size} → saidSize a ≡ m → saidSize b
 onceSize =
     once saidSize (elim [ answer n ↦ Size.Bytes n | refusal why ↦ Size.Refused why ])
     (elim [ Size.Bytes n ↦ refl | Size.Refused why ↦ refl ])
+
+-- what was said of a result is what its case says
+pub told : {A B : Type 0} (said : A → B) {r x : A} {m : B} → said r ≡ m → r ≡ x → m ≡ said x
+told said p q = sym p ∙ ap said q

@@ -62,10 +62,11 @@ made-back g {bytes} {a} h = record { back = λ before behind. rw (h .back before
 pub asked-back : {A : Type 0} {found : Answer A} {a : A} → found ≡ answer a → Back (asked found) [] a
 asked-back {a} e = rw e (give-back a)
 
+-- a field that is there, or its absent value where it is not
 pub when-back : {A : Type 0} {r : Reader A} {bytes : List ℕ} {a : A} (b : Bool) (absent : A)
-    → Back r bytes a → (b ≡ false → a ≡ absent) → Back (when b absent r) (cond b bytes []) a
-when-back true absent h e = h
-when-back false absent h e = rw (e refl) (give-back absent)
+    → (b ≡ true → Back r bytes a) → (b ≡ false → a ≡ absent) → Back (when b absent r) (cond b bytes []) a
+when-back true absent there gone = there refl
+when-back false absent there gone = rw (gone refl) (give-back absent)
 
 little-back : (width v : ℕ) → v < 256 ^ width → little (littleBytes width v) ≡ v
 little-back zero v h = omega arith

@@ -107,3 +107,18 @@ pub wrote-none : (s : List ℕ) (bytes : Answer (List ℕ)) {why : Refusal} → 
     → Wrote s bytes (refusal why) s
 wrote-none s (answer b) e = record { size = e; buffer = rw (← e) }
 wrote-none s (refusal why) e = record { size = e; buffer = refl }
+
+-- the room of two runs is room for the first, and behind it for the second
+pub room-first : (at : ℕ) (xs ys : List ℕ) {n : ℕ} → at + length (xs ++ ys) ≤ n → at + length xs ≤ n
+room-first at xs ys h = let both = length-append xs ys in omega arith
+
+pub room-second : {s : List ℕ} {at : ℕ} {xs : List ℕ} {mid : ℕ} {t : List ℕ} (ys : List ℕ)
+    → Put s at xs mid t → at + length (xs ++ ys) ≤ length s → mid + length ys ≤ length t
+room-second {s} {at} {xs} ys p h =
+    let both = length-append xs ys in
+    let laid = put-fits p (room-first at xs ys h) in
+    omega arith
+
+pub put-both : {s : List ℕ} {at : ℕ} {xs : List ℕ} {mid : ℕ} {t : List ℕ} {ys : List ℕ} {next : ℕ} {u : List ℕ}
+    → Put s at xs mid t → Put t mid ys next u → at + length (xs ++ ys) ≤ length s → Put s at (xs ++ ys) next u
+put-both {xs = xs} {ys = ys} p q h = let both = length-append xs ys in put-then p q (omega arith)

@@ -1,0 +1,13 @@
+pub mod Bits
+pub mod Right
+pub mod Sizes
+pub mod Ranges
+pub mod RoundTrip
+pub mod Values
+pub mod Accepted
+pub mod Facts
+pub mod Announced
+pub mod Optional
+pub mod Mending
+pub mod Once
+pub mod Again

@@ -1,0 +1,20 @@
+-- The bounds that the types of the fields set; every record that code holds keeps them.
+-- Assumes nothing.
+use Prim.Native.Nat.{ℕ, _^_, _<_}
+use Rattle.data_path_state.specs.declared.data_path_state_tlv.DataPathStateTLV.{DataPathStateTLV}
+use Rattle.data_path_state.specs.Words.{wordOf}
+
+pub record Ranges (r : DataPathStateTLV) : Type 0 where
+  pub flags : r .flags .0 < 256 ^ 2
+  pub first : r .«country_code» .first < 256
+  pub second : r .«country_code» .second < 256
+  pub channel : wordOf (r .«channel_map» .channel) < 256 ^ 2
+  pub infra : r .«infra_bssid_channel» .channel < 256 ^ 2
+  pub options : r .«unicast_options» .options .0 < 256 ^ 4
+  pub ext : r .«unicast_options_ext» .word < 256 ^ 4
+  pub extended : r .«extended_flags» .flags .0 < 256 ^ 2
+  pub rlfc : r .rlfc .word < 256 ^ 4
+  pub trigger : r .«log_trigger_id» .id < 256 ^ 2
+  pub msec : r .stats .stats .«msec_since_activation» < 256 ^ 4
+  pub aw : r .stats .stats .«aw_seq_counter» < 256 ^ 4
+  pub pay : r .stats .stats .«pay_update_coutner» < 256 ^ 4

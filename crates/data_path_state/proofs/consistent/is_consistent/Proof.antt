@@ -1,0 +1,48 @@
+-- `is_consistent` meets its contract: it is the six tests together.
+-- Assumes nothing.
+use Rattle.data_path_state.proofs.consistent.is_consistent.Statement.{statement}
+use Rattle.data_path_state.proofs.consistent.is_consistent.Tie as tie
+use Rattle.data_path_state.specs.Consistent.{consistent}
+use borrow.Author.Needs.{needs}
+
+flags-match-requires : tie.Need-flags-match-requires
+flags-match-requires c κs = search needs
+
+extended-match-requires : tie.Need-extended-match-requires
+extended-match-requires c κs = search needs
+
+only-with-requires : tie.Need-only-with-requires
+only-with-requires c κs = search needs
+
+channel-right-requires : tie.Need-channel-right-requires
+channel-right-requires c κs = search needs
+
+words-kept-requires : tie.Need-words-kept-requires
+words-kept-requires c κs = search needs
+
+absent-zero-requires : tie.Need-absent-zero-requires
+absent-zero-requires c κs = search needs
+
+returns : tie.Need-returns
+unfolding consistent
+returns c =
+    rw (
+      c .before .before .before .before .before .flags-match .ensures,
+      c .before .before .before .before .extended-match .ensures,
+      c .before .before .before .only-with .ensures,
+      c .before .before .channel-right .ensures,
+      c .before .words-kept .ensures,
+      c .absent-zero .ensures,
+    )
+
+pub is-consistent-spec : {M : Type 1} → statement M
+is-consistent-spec =
+    tie.close
+    (tie.spec
+    flags-match-requires
+    extended-match-requires
+    only-with-requires
+    channel-right-requires
+    words-kept-requires
+    absent-zero-requires
+    returns)

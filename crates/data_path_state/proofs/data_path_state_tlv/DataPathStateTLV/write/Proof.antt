@@ -1,0 +1,69 @@
+-- `DataPathStateTLV::write` meets its contract: what is put is the record laid down, after the size and the room were settled.
+-- Assumes nothing.
+use Prim.Native.Nat.{_≤_}
+use Rattle.data_path_state.proofs.Sizes.{Sized, sized, size-length}
+use Rattle.data_path_state.proofs.data_path_state_tlv.DataPathStateTLV.write.Statement.{statement}
+use Rattle.data_path_state.proofs.data_path_state_tlv.DataPathStateTLV.write.Tie as tie
+use Rattle.data_path_state.specs.Bytes.{laidDown, bytesOf, sizeOf}
+use Rattle.data_path_state.specs.Consistent.{consistent}
+use Rattle.wire.proofs.Bytes.{within-room}
+use Rattle.wire.proofs.Once.{told}
+use Rattle.wire.proofs.Stores.{wrote-all, wrote-none}
+use Rattle.wire.specs.Answer.{answer}
+use Rattle.wire.specs.Said.{saidSize}
+use borrow.Author.Needs.{needs}
+use lib.ListN.{length}
+use mathlib.Core.Bool.{true}
+use mathlib.Core.Path.{_≡_, sym}
+use native.Mathlib.Omega.{arith}
+
+-- where a size was given, it is the record's, and the buffer has room for it
+settled : (c : tie.After-known-told) →
+    let n = c .before .n .given .0 .0 in
+    (sizeOf (c .before .before .before .before .before .before .args .self) ≡ answer n) × (n ≤ length (c .before .before .before .before .before .before .args .buf .now))
+settled c =
+    let said = sym (told saidSize (c .before .before .before .within .ensures) (c .before .n .given .1)) in
+    within-room _ _ (rw (c .before .before .before .before .size .ensures) at said)
+
+size-requires : tie.Need-size-requires
+size-requires c κs = search needs
+
+within-requires : tie.Need-within-requires
+within-requires c κs = search needs
+
+enum-known-n : tie.Need-enum-known-n
+enum-known-n c = search needs
+
+put-record-requires : tie.Need-put-record-requires
+put-record-requires c κs = omega (arith, settled (c .before), sized _ (settled (c .before) .0) .size)
+
+enum-known-why : tie.Need-enum-known-why
+enum-known-why c = search needs
+
+same-length : tie.Need-same-length
+same-length c = search needs
+
+returns : tie.Need-returns
+returns c =
+    let room = settled (c .before .before .before .before) in
+    let w = sized (c .before .before .before .before .before .before .before .before .before .before .args .self) (room .0) in
+    rw (w .right) (wrote-all (c .before .before .put-record .ensures) (sym (w .size)) (room .1))
+
+returns-2 : tie.Need-returns-2
+returns-2 c =
+    let a = c .before .before .before .before .before .before .args in
+    let said = sym (told saidSize (c .before .before .before .within .ensures) (c .before .why .given .1)) in
+    wrote-none (a .buf .now) (bytesOf (a .self)) (rw (c .before .before .before .before .size .ensures, ← size-length (a .self)) at said)
+
+pub write-spec : {M : Type 1} → statement M
+write-spec =
+    tie.close
+    (tie.spec
+    size-requires
+    within-requires
+    enum-known-n
+    put-record-requires
+    enum-known-why
+    same-length
+    returns
+    returns-2)

@@ -1,0 +1,97 @@
+-- `mend_flags` meets its contract: a mask and the presence bits lay the word out by its runs.
+-- Assumes nothing.
+use Prim.Native.Nat.{ℕ}
+use Rattle.data_path_state.proofs.Bits.{valued}
+use Rattle.data_path_state.proofs.mend.mend_flags.Statement.{statement}
+use Rattle.data_path_state.proofs.mend.mend_flags.Tie as tie
+use Rattle.data_path_state.specs.Mended.{flagsRuns, hasOptions, hasExtended}
+use Rattle.data_path_state.specs.declared.data_path_state_tlv.DataPathFlags.{DataPathFlags}
+use Rattle.wire.proofs.Words.{laid-mask}
+use borrow.Author.Needs.{needs}
+use lib.Bits.{and-le-r}
+use mathlib.Core.Bool.{Bool, cond}
+use mathlib.Core.Path.{ap}
+use native.Mathlib.Omega.{arith}
+
+bit-requires : tie.Need-bit-requires
+bit-requires c κs = search needs
+
+add-t5 : tie.Need-add-t5
+add-t5 c = omega (arith, and-le-r (c .before .before .before .args .r .flags .0) 0x6CF8)
+
+bit-requires-2 : tie.Need-bit-requires-2
+bit-requires-2 c κs = search needs
+
+add-t7 : tie.Need-add-t7
+add-t7 c = omega (arith, and-le-r (c .before .before .before .before .args .r .flags .0) 0x6CF8)
+
+bit-requires-3 : tie.Need-bit-requires-3
+bit-requires-3 c κs = search needs
+
+add-t9 : tie.Need-add-t9
+add-t9 c = omega (arith, and-le-r (c .before .before .before .before .before .args .r .flags .0) 0x6CF8)
+
+bit-requires-4 : tie.Need-bit-requires-4
+bit-requires-4 c κs = search needs
+
+add-t11 : tie.Need-add-t11
+add-t11 c = omega (arith, and-le-r (c .before .before .before .before .before .before .args .r .flags .0) 0x6CF8)
+
+bit-requires-5 : tie.Need-bit-requires-5
+bit-requires-5 c κs = search needs
+
+add-t13 : tie.Need-add-t13
+add-t13 c = omega (arith, and-le-r (c .before .before .before .before .before .before .before .args .r .flags .0) 0x6CF8)
+
+bit-requires-6 : tie.Need-bit-requires-6
+bit-requires-6 c κs = search needs
+
+add-t15 : tie.Need-add-t15
+add-t15 c = omega (arith, and-le-r (c .before .before .before .before .before .before .before .before .args .r .flags .0) 0x6CF8)
+
+has-extended-requires : tie.Need-has-extended-requires
+has-extended-requires c κs = search needs
+
+bit-requires-7 : tie.Need-bit-requires-7
+bit-requires-7 c κs = search needs
+
+add-t18 : tie.Need-add-t18
+add-t18 c = omega (arith, and-le-r (c .before .before .before .before .before .before .before .before .before .before .args .r .flags .0) 0x6CF8)
+
+returns : tie.Need-returns
+returns c =
+    let r = c .before .before .before .before .before .before .before .before .before .before .args .r in
+    ap {B = DataPathFlags} (λ (n : ℕ). record { 0 = n })
+    (omega (
+      arith,
+      ap {B = ℕ} (λ (b : Bool). cond b 32768 0) (c .before .has-extended .ensures),
+      laid-mask (flagsRuns r) (r .flags .0),
+      valued (r .«infra_bssid_channel» .present) 1,
+      valued (r .«infra_address» .present) 2,
+      valued (r .«awdl_address» .present) 4,
+      valued (r .«country_code» .present) 256,
+      valued (r .«channel_map» .present) 512,
+      valued (hasOptions r) 4096,
+      valued (hasExtended r) 32768,
+    ))
+
+pub mend-flags-spec : {M : Type 1} → statement M
+mend-flags-spec =
+    tie.close
+    (tie.spec
+    bit-requires
+    add-t5
+    bit-requires-2
+    add-t7
+    bit-requires-3
+    add-t9
+    bit-requires-4
+    add-t11
+    bit-requires-5
+    add-t13
+    bit-requires-6
+    add-t15
+    has-extended-requires
+    bit-requires-7
+    add-t18
+    returns)

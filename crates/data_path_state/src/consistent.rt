@@ -1,0 +1,117 @@
+ghost use mathlib.Core.Path.{_≡_};
+ghost use Rattle.data_path_state.specs.Consistent as C;
+use crate::data_path_state_tlv::DataPathExtendedFlags;
+use crate::data_path_state_tlv::DataPathFlags;
+use crate::data_path_state_tlv::DataPathStateTLV;
+use crate::misc::ChannelMap;
+use crate::misc::DataPathChannel;
+use crate::misc::DataPathStats;
+use crate::misc::UnicastOptions;
+use wire::MACAddress;
+
+// The tests below have no branches: each is a formula, as its definition is.
+fn flags_match(r: DataPathStateTLV) -> bool
+    ensures { λ t. ⌜ t ≡ C.flagsMatch r ⌝ }
+{
+    let w = r.flags.0;
+    ((w / DataPathFlags::INFRA_BSSID_CHANNEL_PRESENT % 2 == 1) == r.infra_bssid_channel.present)
+        & ((w / DataPathFlags::INFRA_ADDRESS_PRESENT % 2 == 1) == r.infra_address.present)
+        & ((w / DataPathFlags::AWDL_ADDRESS_PRESENT % 2 == 1) == r.awdl_address.present)
+        & ((w / DataPathFlags::COUNTRY_CODE_PRESENT % 2 == 1) == r.country_code.present)
+        & ((w / DataPathFlags::CHANNEL_MAP_PRESENT % 2 == 1) == r.channel_map.present)
+        & ((w / DataPathFlags::UNICAST_OPTIONS_PRESENT % 2 == 1) == r.unicast_options.present)
+        & ((w / DataPathFlags::EXTENDED_FLAGS % 2 == 1) == r.extended_flags.present)
+}
+
+fn extended_match(r: DataPathStateTLV) -> bool
+    ensures { λ t. ⌜ t ≡ C.extendedMatch r ⌝ }
+{
+    let w = r.extended_flags.flags.0;
+    ((w / DataPathExtendedFlags::LOG_TRIGGER_ID_PRESENT % 2 == 1) == r.log_trigger_id.present)
+        & ((w / DataPathExtendedFlags::RLFC_PRESENT % 2 == 1) == r.rlfc.present)
+        & ((w / DataPathExtendedFlags::STATS_PRESENT % 2 == 1) == r.stats.present)
+}
+
+fn only_with(r: DataPathStateTLV) -> bool
+    ensures { λ t. ⌜ t ≡ C.onlyWith r ⌝ }
+{
+    (!r.unicast_options_ext.present | r.unicast_options.present)
+        & (!r.log_trigger_id.present | r.extended_flags.present)
+        & (!r.rlfc.present | r.extended_flags.present)
+        & (!r.stats.present | r.extended_flags.present)
+}
+
+fn channel_right(c: DataPathChannel) -> bool
+    ensures { λ t. ⌜ t ≡ C.channelRight c ⌝ }
+{
+    match c {
+        DataPathChannel::SingleChannel(channel) => (channel % 2 == 0) & (channel <= 254),
+        DataPathChannel::ChannelMap(map) => (map.0 % 2 == 1) & (map.0 <= ChannelMap::KEEP),
+    }
+}
+
+fn words_kept(r: DataPathStateTLV) -> bool
+    ensures { λ t. ⌜ t ≡ C.wordsKept r ⌝ }
+{
+    let extended = r.extended_flags.flags.0;
+    let options = r.unicast_options.options.0;
+    (DataPathExtendedFlags::from_bits(extended).0 == extended)
+        & (UnicastOptions::from_bits(options).0 == options)
+}
+
+fn is_zero_address(a: MACAddress) -> bool
+    ensures { λ t. ⌜ t ≡ C.isZeroAddress a ⌝ }
+{
+    (a.0 == 0) & (a.1 == 0) & (a.2 == 0) & (a.3 == 0) & (a.4 == 0) & (a.5 == 0)
+}
+
+fn is_zero_channel(c: DataPathChannel) -> bool
+    ensures { λ t. ⌜ t ≡ C.isZeroChannel c ⌝ }
+{
+    match c {
+        DataPathChannel::SingleChannel(channel) => channel == 0,
+        DataPathChannel::ChannelMap(_) => false,
+    }
+}
+
+fn is_zero_stats(s: DataPathStats) -> bool
+    ensures { λ t. ⌜ t ≡ C.isZeroStats s ⌝ }
+{
+    (s.msec_since_activation == 0) & (s.aw_seq_counter == 0) & (s.pay_update_coutner == 0)
+}
+
+fn absent_zero(r: DataPathStateTLV) -> bool
+    ensures { λ t. ⌜ t ≡ C.absentZero r ⌝ }
+{
+    let country = r.country_code;
+    let word = r.channel_map;
+    let channel = word.channel;
+    let bssid = r.infra_bssid_channel;
+    let infra = r.infra_address;
+    let awdl = r.awdl_address;
+    let stats = r.stats;
+    (country.present | ((country.first == 0) & (country.second == 0)))
+        & (word.present | is_zero_channel(channel))
+        & (bssid.present | (is_zero_address(bssid.bssid) & (bssid.channel == 0)))
+        & (infra.present | is_zero_address(infra.address))
+        & (awdl.present | is_zero_address(awdl.address))
+        & (r.unicast_options.present | (r.unicast_options.options.0 == 0))
+        & (r.unicast_options_ext.present | (r.unicast_options_ext.word == 0))
+        & (r.extended_flags.present | (r.extended_flags.flags.0 == 0))
+        & (r.rlfc.present | (r.rlfc.word == 0))
+        & (r.log_trigger_id.present | (r.log_trigger_id.id == 0))
+        & (stats.present | is_zero_stats(stats.stats))
+}
+
+pub(crate) fn is_consistent(r: DataPathStateTLV) -> bool
+    ensures { λ t. ⌜ t ≡ C.consistent r ⌝ }
+{
+    let word = r.channel_map;
+    let channel = word.channel;
+    flags_match(r)
+        & extended_match(r)
+        & only_with(r)
+        & channel_right(channel)
+        & words_kept(r)
+        & absent_zero(r)
+}

@@ -1,0 +1,213 @@
+ghost use mathlib.Core.Path.{_≡_};
+ghost use mathlib.Core.Bool.{cond};
+ghost use Prim.Native.Nat.{_≤_};
+ghost use Rattle.data_path_state.specs.DataPath.{noCountry, noChannel, noInfra, noAddress, noWord, noTriggerId, noStats};
+ghost use Rattle.data_path_state.specs.Mended as M;
+use crate::data_path_state_tlv::CountryCode;
+use crate::data_path_state_tlv::DataPathExtendedFlags;
+use crate::data_path_state_tlv::DataPathFlags;
+use crate::data_path_state_tlv::DataPathStateTLV;
+use crate::data_path_state_tlv::InfraBssidChannel;
+use crate::data_path_state_tlv::OptionalAddress;
+use crate::data_path_state_tlv::OptionalChannel;
+use crate::data_path_state_tlv::OptionalExtendedFlags;
+use crate::data_path_state_tlv::OptionalOptions;
+use crate::data_path_state_tlv::OptionalStats;
+use crate::data_path_state_tlv::OptionalTriggerId;
+use crate::data_path_state_tlv::OptionalWord;
+use crate::misc::DataPathChannel;
+use crate::misc::DataPathStats;
+use crate::misc::UnicastOptions;
+use wire::MACAddress;
+
+// The bits of the flags that announce no field, and those of the extended word that have a name and announce none.
+const OTHER_FLAGS: u16 = 0x6CF8;
+
+const OTHER_EXTENDED: u16 = 0xFF5A;
+
+// A presence bit: its value where the field is there.
+fn bit(present: bool, value: u16) -> u16
+    ensures { λ r. ⌜ r ≡ cond present value 0 ⌝ }
+    ensures { λ r. ⌜ r ≤ value ⌝ }
+{
+    if present { value } else { 0 }
+}
+
+fn mend_country(c: CountryCode) -> CountryCode
+    ensures { λ r. ⌜ r ≡ cond (c .present) c noCountry ⌝ }
+{
+    if c.present {
+        return c;
+    }
+    CountryCode {
+        present: false,
+        first: 0,
+        second: 0,
+    }
+}
+
+// A channel that is there is left as it is, also where it is wrong.
+fn mend_channel(c: OptionalChannel) -> OptionalChannel
+    ensures { λ r. ⌜ r ≡ cond (c .present) c noChannel ⌝ }
+{
+    if c.present {
+        return c;
+    }
+    let channel = DataPathChannel::SingleChannel(0);
+    OptionalChannel {
+        present: false,
+        channel,
+    }
+}
+
+fn mend_infra(i: InfraBssidChannel) -> InfraBssidChannel
+    ensures { λ r. ⌜ r ≡ cond (i .present) i noInfra ⌝ }
+{
+    if i.present {
+        return i;
+    }
+    let bssid = MACAddress(0, 0, 0, 0, 0, 0);
+    InfraBssidChannel {
+        present: false,
+        bssid,
+        channel: 0,
+    }
+}
+
+fn mend_address(a: OptionalAddress) -> OptionalAddress
+    ensures { λ r. ⌜ r ≡ cond (a .present) a noAddress ⌝ }
+{
+    if a.present {
+        return a;
+    }
+    let address = MACAddress(0, 0, 0, 0, 0, 0);
+    OptionalAddress {
+        present: false,
+        address,
+    }
+}
+
+fn mend_word(w: OptionalWord) -> OptionalWord
+    ensures { λ r. ⌜ r ≡ cond (w .present) w noWord ⌝ }
+{
+    if w.present {
+        return w;
+    }
+    OptionalWord {
+        present: false,
+        word: 0,
+    }
+}
+
+fn mend_trigger_id(t: OptionalTriggerId) -> OptionalTriggerId
+    ensures { λ r. ⌜ r ≡ cond (t .present) t noTriggerId ⌝ }
+{
+    if t.present {
+        return t;
+    }
+    OptionalTriggerId {
+        present: false,
+        id: 0,
+    }
+}
+
+fn mend_stats(s: OptionalStats) -> OptionalStats
+    ensures { λ r. ⌜ r ≡ cond (s .present) s noStats ⌝ }
+{
+    if s.present {
+        return s;
+    }
+    let stats = DataPathStats {
+        msec_since_activation: 0,
+        aw_seq_counter: 0,
+        pay_update_coutner: 0,
+    };
+    OptionalStats {
+        present: false,
+        stats,
+    }
+}
+
+fn mend_options(r: DataPathStateTLV) -> OptionalOptions
+    ensures { λ o. ⌜ o ≡ M.mendedOptions r ⌝ }
+{
+    let present = r.unicast_options.present | r.unicast_options_ext.present;
+    if r.unicast_options.present {
+        let options = UnicastOptions::from_bits(r.unicast_options.options.0);
+        return OptionalOptions { present, options };
+    }
+    let options = UnicastOptions(0);
+    OptionalOptions { present, options }
+}
+
+fn has_extended(r: DataPathStateTLV) -> bool
+    ensures { λ b. ⌜ b ≡ M.hasExtended r ⌝ }
+{
+    r.extended_flags.present | r.log_trigger_id.present | r.rlfc.present | r.stats.present
+}
+
+// The extended word that the presence bits are set in: the record's own, or 0.
+fn extended_word(e: OptionalExtendedFlags) -> u16
+    ensures { λ r. ⌜ r ≡ cond (e .present) (e .flags .0) 0 ⌝ }
+{
+    if e.present { e.flags.0 } else { 0 }
+}
+
+fn mend_extended(r: DataPathStateTLV) -> OptionalExtendedFlags
+    ensures { λ e. ⌜ e ≡ M.mendedExtended r ⌝ }
+{
+    let word = extended_word(r.extended_flags) & OTHER_EXTENDED;
+    let flags = DataPathExtendedFlags(
+        word
+            + bit(
+                r.log_trigger_id.present,
+                DataPathExtendedFlags::LOG_TRIGGER_ID_PRESENT,
+            )
+            + bit(r.rlfc.present, DataPathExtendedFlags::RLFC_PRESENT)
+            + bit(r.stats.present, DataPathExtendedFlags::STATS_PRESENT),
+    );
+    let present = has_extended(r);
+    OptionalExtendedFlags { present, flags }
+}
+
+fn mend_flags(r: DataPathStateTLV) -> DataPathFlags
+    ensures { λ f. ⌜ f ≡ M.mendedFlags r ⌝ }
+{
+    let has_options = r.unicast_options.present | r.unicast_options_ext.present;
+    let word = r.flags.0 & OTHER_FLAGS;
+    DataPathFlags(
+        word
+            + bit(
+                r.infra_bssid_channel.present,
+                DataPathFlags::INFRA_BSSID_CHANNEL_PRESENT,
+            )
+            + bit(
+                r.infra_address.present,
+                DataPathFlags::INFRA_ADDRESS_PRESENT,
+            )
+            + bit(r.awdl_address.present, DataPathFlags::AWDL_ADDRESS_PRESENT)
+            + bit(r.country_code.present, DataPathFlags::COUNTRY_CODE_PRESENT)
+            + bit(r.channel_map.present, DataPathFlags::CHANNEL_MAP_PRESENT)
+            + bit(has_options, DataPathFlags::UNICAST_OPTIONS_PRESENT)
+            + bit(has_extended(r), DataPathFlags::EXTENDED_FLAGS),
+    )
+}
+
+pub(crate) fn mend_record(r: DataPathStateTLV) -> DataPathStateTLV
+    ensures { λ m. ⌜ m ≡ M.mended r ⌝ }
+{
+    DataPathStateTLV {
+        flags: mend_flags(r),
+        country_code: mend_country(r.country_code),
+        channel_map: mend_channel(r.channel_map),
+        infra_bssid_channel: mend_infra(r.infra_bssid_channel),
+        infra_address: mend_address(r.infra_address),
+        awdl_address: mend_address(r.awdl_address),
+        unicast_options: mend_options(r),
+        unicast_options_ext: mend_word(r.unicast_options_ext),
+        extended_flags: mend_extended(r),
+        rlfc: mend_word(r.rlfc),
+        log_trigger_id: mend_trigger_id(r.log_trigger_id),
+        stats: mend_stats(r.stats),
+    }
+}

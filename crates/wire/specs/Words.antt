@@ -1,0 +1,31 @@
+-- Words made of runs of bits, from the lowest bit on.
+use Prim.Native.Nat.{ℕ, _+_, _-_, _*_, _/_, _%_, _^_}
+use mathlib.Core.Bool.{Bool, cond}
+use mathlib.Core.List.{List, [], _∷_}
+
+-- some bits that stay as they are, some that are 0, and one bit that is given
+pub data Run : Type 0 where
+  keep : ℕ → Run
+  clear : ℕ → Run
+  put : Bool → Run
+
+-- a word with its bits laid out by runs; behind the last run all bits are 0
+abbrev pub laid : List Run → ℕ → ℕ
+laid [] w = 0
+laid (keep n ∷ rest) w = laid rest (w / 2 ^ n) * 2 ^ n + w % 2 ^ n
+laid (clear n ∷ rest) w = laid rest (w / 2 ^ n) * 2 ^ n
+laid (put b ∷ rest) w = laid rest (w / 2 ^ 1) * 2 ^ 1 + cond b 1 0
+
+-- the mask of the bits that stay
+abbrev pub maskOf : List Run → ℕ
+maskOf [] = 0
+maskOf (keep n ∷ rest) = maskOf rest * 2 ^ n + (2 ^ n - 1)
+maskOf (clear n ∷ rest) = maskOf rest * 2 ^ n
+maskOf (put b ∷ rest) = maskOf rest * 2 ^ 1
+
+-- what the given bits add to it
+abbrev pub addedBy : List Run → ℕ
+addedBy [] = 0
+addedBy (keep n ∷ rest) = addedBy rest * 2 ^ n
+addedBy (clear n ∷ rest) = addedBy rest * 2 ^ n
+addedBy (put b ∷ rest) = addedBy rest * 2 ^ 1 + cond b 1 0
