@@ -156,11 +156,11 @@ fn infra_bssid_channel(s: &[u8], at: usize, present: bool) -> ReadInfra
     }
     match wire::address_at(s, at) {
         ReadAddress::Read(bssid, behind_bssid) => match wire::u16_at(s, behind_bssid) {
-            ReadU16::Read(channel, next) => ReadInfra::Read(
+            ReadU16::Read(infra_channel, next) => ReadInfra::Read(
                 InfraBssidChannel {
                     present: true,
                     bssid,
-                    channel,
+                    channel: infra_channel,
                 },
                 next,
             ),

@@ -26,8 +26,8 @@ enum-known-bssid c = search needs
 u16-at-requires : tie.Need-u16-at-requires
 u16-at-requires c κs = search needs
 
-enum-known-channel : tie.Need-enum-known-channel
-enum-known-channel c = search needs
+enum-known-infra-channel : tie.Need-enum-known-infra-channel
+enum-known-infra-channel c = search needs
 
 enum-known-why : tie.Need-enum-known-why
 enum-known-why c = search needs
@@ -40,7 +40,7 @@ returns-2 c =
     rw (
       not-false (c .before .before .before .before .before .before .before .before .before .before .args .present) (c .before .before .before .before .before .before .before .before .if1 .left),
       told saidAddress (c .before .before .before .before .before .before .before .address-at .ensures) (c .before .before .before .before .before .bssid .given .1),
-      told saidU16 (c .before .before .before .u16-at .ensures) (c .before .channel .given .1),
+      told saidU16 (c .before .before .before .u16-at .ensures) (c .before .infra-channel .given .1),
     )
 
 returns-3 : tie.Need-returns-3
@@ -67,7 +67,7 @@ infra-bssid-channel-spec =
     address-at-requires
     enum-known-bssid
     u16-at-requires
-    enum-known-channel
+    enum-known-infra-channel
     enum-known-why
     enum-known-why-2
     returns-2
