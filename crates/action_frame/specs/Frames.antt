@@ -1,0 +1,55 @@
+-- An action frame: its header, which is read and written, and the tail behind it.
+use Prim.Native.Nat.{ℕ}
+use mathlib.Core.List.{List, [], _∷_, _++_}
+use lib.Dec.{eqb}
+use lib.ListN.{getD, drop}
+use Rattle.wire.specs.declared.refusal.Refusal.{Refusal}
+use Rattle.wire.specs.declared.refusal.Refusal.the-variants.{NotAction, NotVersion}
+use Rattle.wire.specs.Reading.{Reader, field, give, _>>=_}
+use Rattle.wire.specs.Answer.{asked, require}
+use Rattle.wire.specs.Numbers.{number, littleBytes}
+use Rattle.action_frame.specs.declared.AWDLActionFrame.{AWDLActionFrame}
+
+abbrev pub zeroFrame : AWDLActionFrame
+zeroFrame = record { subtype = 0; «phy_tx_time» = record { 0 = 0 }; «target_tx_time» = record { 0 = 0 } }
+
+-- a byte that has to have a value
+abbrev pub fixedByte : ℕ → Refusal → Reader (Unit {0})
+fixedByte value why = do
+  byte ← number 1
+  asked (require (eqb byte value) why)
+
+-- the reserved byte belongs to the field before it: the two are one, of which the second is dropped, and written as 0
+abbrev pub subtype : Reader ℕ
+subtype = do
+  bytes ← field 2
+  give (getD bytes 0 0)
+
+abbrev pub subtypeBytes : ℕ → List ℕ
+subtypeBytes v = littleBytes 1 v ++ (0 ∷ [])
+
+-- what stands behind the two fixed bytes
+abbrev pub fields : Reader AWDLActionFrame
+fields = do
+  subtype ← subtype
+  phy ← number 4
+  target ← number 4
+  give (record { subtype = subtype; «phy_tx_time» = record { 0 = phy }; «target_tx_time» = record { 0 = target } })
+
+abbrev pub header : Reader AWDLActionFrame
+header = do
+  _ ← fixedByte 0x08 NotAction
+  _ ← fixedByte 0x10 NotVersion
+  fields
+
+-- a frame that is shorter than its header has none
+abbrev pub tailOf : List ℕ → List ℕ
+tailOf frame = drop 12 frame
+
+unfoldable pub headerBytes : AWDLActionFrame → List ℕ
+headerBytes f =
+    (0x08 ∷ []) ++ (0x10 ∷ []) ++ subtypeBytes (f .subtype)
+    ++ littleBytes 4 (f .«phy_tx_time» .0) ++ littleBytes 4 (f .«target_tx_time» .0)
+
+abbrev pub bytesOf : AWDLActionFrame → List ℕ → List ℕ
+bytesOf f tail = headerBytes f ++ tail

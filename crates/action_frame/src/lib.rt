@@ -1,0 +1,157 @@
+// The head of an action frame, the part behind it, and the gap between its two stamps.
+ghost use mathlib.Core.Path.{_≡_};
+ghost use Prim.Native.Nat.{_≤_};
+ghost use lib.ListN.{length};
+ghost use Rattle.wire.specs.Answer.{answer, placeOf};
+ghost use Rattle.wire.specs.Said.{saidPlace, saidSize};
+ghost use Rattle.wire.specs.Writing.{Put, Wrote};
+ghost use Rattle.action_frame.specs.Frames.{fixedByte, fields, header, tailOf, headerBytes, bytesOf};
+ghost use Rattle.action_frame.specs.Stamps.{delta};
+ghost use Rattle.action_frame.specs.Said.{saidFrame, saidDelta};
+use wire::Place;
+use wire::ReadU8;
+use wire::ReadU32;
+use wire::Refusal;
+use wire::Size;
+
+// When the radio began to send the frame, in microseconds.
+pub struct PhyTxTime(pub u32);
+
+// When the driver handed the frame to the radio, in microseconds.
+pub struct TargetTxTime(pub u32);
+
+pub struct AWDLActionFrame {
+    pub subtype: u8,
+    pub phy_tx_time: PhyTxTime,
+    pub target_tx_time: TargetTxTime,
+}
+
+// The header with its size, or why there is none.
+pub enum ReadFrame {
+    Read(AWDLActionFrame, usize),
+    Refused(Refusal),
+}
+
+pub enum Delta {
+    Micros(u32),
+    Refused(Refusal),
+}
+
+// The pair of bytes in front of every frame.
+const FIRST: u8 = 0x08;
+
+const SECOND: u8 = 0x10;
+
+impl AWDLActionFrame {
+    // Periodic synchronization and master indication. Any other subtype is read and written too.
+    pub const PSF: u8 = 0x00;
+
+    pub const MIF: u8 = 0x03;
+
+    pub const HEADER_SIZE: usize = 12;
+
+    pub fn read(frame: &[u8]) -> ReadFrame
+        ensures { λ r. ⌜ saidFrame r ≡ header (now (frame .entry)) 0 ⌝ }
+    {
+        match fixed_byte(frame, 0, FIRST, Refusal::NotAction) {
+            Place::At(second) => match fixed_byte(frame, second, SECOND, Refusal::NotVersion) {
+                Place::At(next) => fields_at(frame, next),
+                Place::Refused(why) => ReadFrame::Refused(why),
+            },
+            Place::Refused(why) => ReadFrame::Refused(why),
+        }
+    }
+
+    // The items of a frame, where they lie in it. A frame that is shorter than its header has none.
+    pub fn tail(frame: &[u8]) -> &[u8]
+        ensures { λ r. ⌜ now r ≡ tailOf (now (frame .entry)) ⌝ }
+    {
+        let len = frame.len();
+        if len < AWDLActionFrame::HEADER_SIZE {
+            return &frame[len..];
+        }
+        &frame[AWDLActionFrame::HEADER_SIZE..]
+    }
+
+    pub fn write(self, tail: &[u8], buf: &mut [u8]) -> Size
+        ensures { λ r. ⌜ Wrote (now (buf .entry)) (answer (bytesOf self (now (tail .entry)))) (saidSize r) (now (buf .exit)) ⌝ }
+    {
+        let size = AWDLActionFrame::HEADER_SIZE + tail.len();
+        match wire::within(buf.len(), Size::Bytes(size)) {
+            Size::Bytes(n) => {
+                let at = put_header(buf, self);
+                wire::put_slice(buf, at, tail);
+                Size::Bytes(n)
+            }
+            Size::Refused(why) => Size::Refused(why),
+        }
+    }
+}
+
+// How long the frame waited between the driver and the air.
+pub fn tx_delta(phy: PhyTxTime, target: TargetTxTime) -> Delta
+    ensures { λ r. ⌜ saidDelta r ≡ delta (phy .0) (target .0) ⌝ }
+{
+    let sent = phy.0;
+    let handed_over = target.0;
+    if sent < handed_over {
+        return Delta::Refused(Refusal::SentBeforeHandOver);
+    }
+    Delta::Micros(sent - handed_over)
+}
+
+// The place behind a byte that has to have a value. A missing byte is told from a wrong one.
+fn fixed_byte(s: &[u8], at: usize, value: u8, why: Refusal) -> Place
+    ensures { λ r. ⌜ saidPlace r ≡ placeOf (fixedByte value why (now (s .entry)) at) ⌝ }
+{
+    match wire::u8_at(s, at) {
+        ReadU8::Read(byte, next) => {
+            if byte != value {
+                return Place::Refused(why);
+            }
+            Place::At(next)
+        }
+        ReadU8::Refused(short) => Place::Refused(short),
+    }
+}
+
+// What stands behind the pair. The subtype is read with the reserved byte, which is then dropped.
+fn fields_at(s: &[u8], at: usize) -> ReadFrame
+    ensures { λ r. ⌜ saidFrame r ≡ fields (now (s .entry)) at ⌝ }
+{
+    match wire::field_at(s, at, 2) {
+        Place::At(stamps) => {
+            let subtype = s[at];
+            match wire::u32_at(s, stamps) {
+                ReadU32::Read(phy, behind) => match wire::u32_at(s, behind) {
+                    ReadU32::Read(target, end) => ReadFrame::Read(
+                        AWDLActionFrame {
+                            subtype,
+                            phy_tx_time: PhyTxTime(phy),
+                            target_tx_time: TargetTxTime(target),
+                        },
+                        end,
+                    ),
+                    ReadU32::Refused(why) => ReadFrame::Refused(why),
+                },
+                ReadU32::Refused(why) => ReadFrame::Refused(why),
+            }
+        }
+        Place::Refused(why) => ReadFrame::Refused(why),
+    }
+}
+
+// The place behind the header, which is put at the start of the buffer.
+fn put_header(buf: &mut [u8], f: AWDLActionFrame) -> usize
+    requires { ⌜ 12 ≤ length (now buf) ⌝ }
+    ensures { λ r. ⌜ Put (now (buf .entry)) 0 (headerBytes f) r (now (buf .exit)) ⌝ }
+{
+    let phy = f.phy_tx_time;
+    let target = f.target_tx_time;
+    let second = wire::put_u8(buf, 0, FIRST);
+    let subtype = wire::put_u8(buf, second, SECOND);
+    let reserved = wire::put_u8(buf, subtype, f.subtype);
+    let stamps = wire::put_u8(buf, reserved, 0);
+    let behind = wire::put_u32(buf, stamps, phy.0);
+    wire::put_u32(buf, behind, target.0)
+}

@@ -1,0 +1,93 @@
+-- `periods_at` meets its contract: each field that it reads, and a refusal that it hands on, is that of `periods`.
+-- Assumes nothing.
+use Rattle.synchronization_parameters.proofs.stages.periods_at.Statement.{statement}
+use Rattle.synchronization_parameters.proofs.stages.periods_at.Tie as tie
+use Rattle.synchronization_parameters.specs.SynchronizationReader.{periods}
+use Rattle.wire.specs.Said.{saidU16}
+use borrow.Author.Needs.{needs}
+use mathlib.Core.Path.{sym, ap, _∙_}
+
+u16-at-requires : tie.Need-u16-at-requires
+u16-at-requires c κs = search needs
+
+enum-known-aw-period : tie.Need-enum-known-aw-period
+enum-known-aw-period c = search needs
+
+u16-at-requires-2 : tie.Need-u16-at-requires-2
+u16-at-requires-2 c κs = search needs
+
+enum-known-af-period : tie.Need-enum-known-af-period
+enum-known-af-period c = search needs
+
+u16-at-requires-3 : tie.Need-u16-at-requires-3
+u16-at-requires-3 c κs = search needs
+
+enum-known-awdl-flags : tie.Need-enum-known-awdl-flags
+enum-known-awdl-flags c = search needs
+
+enum-known-why : tie.Need-enum-known-why
+enum-known-why c = search needs
+
+enum-known-why-2 : tie.Need-enum-known-why-2
+enum-known-why-2 c = search needs
+
+enum-known-why-3 : tie.Need-enum-known-why-3
+enum-known-why-3 c = search needs
+
+returns : tie.Need-returns
+unfolding periods
+returns c =
+    let c3 = c .before in
+    let c2 = c3 .before .before .before .before in
+    let c1 = c2 .before .before .before .before in
+    rw (
+      sym (c1 .before .before .u16-at .ensures) ∙ ap saidU16 (c1 .aw-period .given .1),
+      sym (c2 .before .before .u16-at2 .ensures) ∙ ap saidU16 (c2 .af-period .given .1),
+      sym (c3 .before .before .u16-at3 .ensures) ∙ ap saidU16 (c3 .awdl-flags .given .1),
+    )
+
+returns-2 : tie.Need-returns-2
+unfolding periods
+returns-2 c =
+    let c3 = c .before in
+    let c2 = c3 .before .before .before .before in
+    let c1 = c2 .before .before .before .before in
+    rw (
+      sym (c1 .before .before .u16-at .ensures) ∙ ap saidU16 (c1 .aw-period .given .1),
+      sym (c2 .before .before .u16-at2 .ensures) ∙ ap saidU16 (c2 .af-period .given .1),
+      sym (c3 .before .before .u16-at3 .ensures) ∙ ap saidU16 (c3 .why .given .1),
+    )
+
+returns-3 : tie.Need-returns-3
+unfolding periods
+returns-3 c =
+    let c2 = c .before in
+    let c1 = c2 .before .before .before .before in
+    rw (
+      sym (c1 .before .before .u16-at .ensures) ∙ ap saidU16 (c1 .aw-period .given .1),
+      sym (c2 .before .before .u16-at2 .ensures) ∙ ap saidU16 (c2 .why2 .given .1),
+    )
+
+returns-4 : tie.Need-returns-4
+unfolding periods
+returns-4 c =
+    let c1 = c .before in
+    rw (sym (c1 .before .before .u16-at .ensures) ∙ ap saidU16 (c1 .why3 .given .1))
+
+pub periods-at-spec : {M : Type 1} → statement M
+periods-at-spec =
+    tie.close
+    (tie.spec
+    u16-at-requires
+    enum-known-aw-period
+    u16-at-requires-2
+    enum-known-af-period
+    u16-at-requires-3
+    enum-known-awdl-flags
+    enum-known-why
+    enum-known-why-2
+    enum-known-why-3
+    returns
+    returns-2
+    returns-3
+    returns-4)

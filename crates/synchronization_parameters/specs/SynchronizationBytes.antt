@@ -1,0 +1,36 @@
+-- What is written of a record: its fields in the order in which they are read.
+use Prim.Native.Nat.{ℕ}
+use mathlib.Core.List.{List, [], _∷_, _++_}
+use Rattle.wire.specs.Numbers.{littleBytes}
+use Rattle.wire.specs.Addresses.{addressBytes}
+use Rattle.synchronization_parameters.specs.declared.synchronization_parameters_tlv.SynchronizationParametersTLV.{SynchronizationParametersTLV}
+
+-- from 0, up to the lengths
+abbrev pub firstBytes : SynchronizationParametersTLV → List ℕ
+firstBytes p =
+    littleBytes 1 (p .«next_channel»)
+    ++ littleBytes 2 (p .«tx_counter»)
+    ++ littleBytes 1 (p .«master_channel»)
+    ++ littleBytes 1 (p .«guard_time»)
+    ++ littleBytes 2 (p .«aw_period»)
+    ++ littleBytes 2 (p .«af_period»)
+    ++ littleBytes 2 (p .«awdl_flags»)
+    ++ littleBytes 2 (p .«aw_ext_length»)
+    ++ littleBytes 2 (p .«aw_common_length»)
+    ++ littleBytes 2 (p .«remaining_aw_length»)
+
+-- from 17, the counts and what is behind them; the reserved byte is 0
+abbrev pub lastBytes : SynchronizationParametersTLV → List ℕ
+lastBytes p =
+    littleBytes 1 (p .«min_ext_count»)
+    ++ littleBytes 1 (p .«max_multicast_ext_count»)
+    ++ littleBytes 1 (p .«max_unicast_ext_count»)
+    ++ littleBytes 1 (p .«max_af_ext_count»)
+    ++ addressBytes (p .«master_address»)
+    ++ littleBytes 1 (p .«presence_mode»)
+    ++ (0 ∷ [])
+    ++ littleBytes 2 (p .«aw_seq_number»)
+    ++ littleBytes 2 (p .«ap_beacon_alignment_delta»)
+
+unfoldable pub bytesOf : SynchronizationParametersTLV → List ℕ
+bytesOf p = firstBytes p ++ lastBytes p

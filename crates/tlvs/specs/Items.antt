@@ -1,0 +1,35 @@
+-- An item: how it is read, what a step of the walk finds at a place, and its value.
+use Prim.Native.Nat.{ℕ, _+_}
+use mathlib.Core.Bool.{cond}
+use mathlib.Core.List.{List, []}
+use lib.Dec.{eqb}
+use lib.ListN.{length}
+use Rattle.wire.specs.Reading.{Reading, Reader, read, refused, field, give, _>>=_}
+use Rattle.wire.specs.Numbers.{number}
+use Rattle.tlvs.specs.declared.item.Item.{Item}
+use Rattle.tlvs.specs.declared.item.Step.{Step}
+
+-- type (1), length (2), value; the item keeps the place at which its type stands
+abbrev pub item : ℕ → Reader Item
+item place = do
+  type ← number 1
+  size ← number 2
+  value ← field size
+  give (record { at = place; «tlv_type» = type; length = size })
+
+abbrev pub found : ℕ → Reading Item → Step
+found at (read it next) = Step.Item it next
+found at (refused why) = Step.Cut at
+
+-- at the end of the tail: whole; where fewer than 3 bytes are left, or the length is above what follows: cut at that place.
+-- A place past the end is cut at that place too; no walk comes to one.
+unfoldable pub stepAt : List ℕ → ℕ → Step
+stepAt tail at = cond (eqb at (length tail)) Step.Whole (found at (item at tail at))
+
+abbrev pub bytesFound : Reading (List ℕ) → List ℕ
+bytesFound (read bytes next) = bytes
+bytesFound (refused why) = []
+
+-- an item's value stands behind its type and its length; numbers that do not lie within the tail have an empty one
+abbrev pub valueOf : List ℕ → Item → List ℕ
+valueOf tail it = bytesFound (field (it .length) tail (it .at + 3))

@@ -1,0 +1,42 @@
+-- The walk over a tail. Its places count from the tail's start.
+use Prim.Native.Nat.{ℕ, zero, suc, _-_}
+use mathlib.Core.List.{List, [], _∷_}
+use lib.ListN.{length}
+use Rattle.tlvs.specs.declared.item.Item.{Item}
+use Rattle.tlvs.specs.declared.item.Step.{Step}
+use Rattle.tlvs.specs.Items.{stepAt}
+
+-- what a walk gives: its items in order, and how it ends
+pub data Ending : Type 0 where
+  whole : Ending
+  cut : ℕ → Ending
+
+pub record Walk : Type 0 where
+  pub items : List Item
+  pub ending : Ending
+
+-- an item, and then what the walk gives from the place behind its value; or the end
+abbrev pub goOn : Step → (ℕ → Walk) → Walk
+goOn (Step.Item it next) rest = record { items = it ∷ rest next .items; ending = rest next .ending }
+goOn Step.Whole rest = record { items = []; ending = whole }
+goOn (Step.Cut at) rest = record { items = []; ending = cut at }
+
+-- the walk from a place, in so many steps at most
+unfoldable pub walkFrom : ℕ → List ℕ → ℕ → Walk
+walkFrom zero tail at = record { items = []; ending = cut at }
+walkFrom (suc steps) tail at = goOn (stepAt tail at) (walkFrom steps tail)
+
+-- no step but the last one stays where it is, so that one more than there are bytes left is always enough
+abbrev pub walkAt : List ℕ → ℕ → Walk
+walkAt tail at = walkFrom (suc (length tail - at)) tail at
+
+abbrev pub walk : List ℕ → Walk
+walk tail = walkAt tail 0
+
+-- the end report: how many items the walk's list has, and how the walk ends
+pub record Report : Type 0 where
+  pub count : ℕ
+  pub ending : Ending
+
+abbrev pub reportOf : Walk → Report
+reportOf w = record { count = length (w .items); ending = w .ending }
