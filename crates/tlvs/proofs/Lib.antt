@@ -2,6 +2,9 @@ pub mod Parts
 pub mod Steps
 pub mod Plain
 pub mod Walks
+pub mod Searches
+pub mod Beside
+pub mod Thin
 pub mod Sizes
 pub mod Once
 pub mod RoundTrip

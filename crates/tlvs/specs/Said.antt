@@ -1,7 +1,24 @@
--- What the end report of the code says.
+-- What each answer of the code says.
+use Rattle.data_path_state.specs.declared.data_path_state_tlv.DataPathStateTLV.{DataPathStateTLV}
+use Rattle.synchronization_parameters.specs.declared.synchronization_parameters_tlv.SynchronizationParametersTLV.{SynchronizationParametersTLV}
+use Rattle.synchronization_parameters.specs.SynchronizationReader.{zeroSynchronization}
 use Rattle.tlvs.specs.declared.item.End.{End}
+use Rattle.tlvs.specs.declared.search.Found.{Found}
+use Rattle.tlvs.specs.declared.search.FoundDataPath.{FoundDataPath}
+use Rattle.tlvs.specs.declared.search.FoundSynchronization.{FoundSynchronization}
 use Rattle.tlvs.specs.Walk.{Report, whole, cut}
+use Rattle.tlvs.specs.Search.{Search, found, nothing}
 
 abbrev pub saidEnd : End → Report
 saidEnd (End.Whole items) = record { count = items; ending = whole }
 saidEnd (End.Cut at items) = record { count = items; ending = cut at }
+
+abbrev pub saidFoundDataPath : FoundDataPath → Search DataPathStateTLV
+saidFoundDataPath (FoundDataPath.Found p it next) = found p it next
+saidFoundDataPath FoundDataPath.Nothing = nothing
+
+-- The enum stands beside the record, since the record will hold an array. This goes the other way: from what is found to the
+-- one struct that says it, with the zero record where nothing is.
+abbrev pub synchronizationFound : Search SynchronizationParametersTLV → FoundSynchronization
+synchronizationFound (found p it next) = record { found = Found.At it next; parameters = p }
+synchronizationFound nothing = record { found = Found.Nothing; parameters = zeroSynchronization }

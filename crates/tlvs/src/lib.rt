@@ -1,6 +1,9 @@
-// The items of a frame's tail: their type numbers, the walk over them with its end report, and their writer.
+// The items of a frame's tail: their type numbers, the walk over them with its end report, the search for the
+// records of a type, and the writer of an item.
 mod awdl_tlv_type;
 mod item;
+mod read_tlvs;
+mod search;
 mod walk;
 mod write;
 
@@ -8,6 +11,14 @@ pub use awdl_tlv_type::AWDLTLVType;
 pub use item::End;
 pub use item::Item;
 pub use item::Step;
+pub use read_tlvs::ReadTLVs;
+pub use search::Found;
+pub use search::FoundDataPath;
+pub use search::FoundSynchronization;
+pub use search::first_data_path;
+pub use search::first_synchronization;
+pub use search::next_data_path;
+pub use search::next_synchronization;
 pub use walk::end;
 pub use walk::step;
 pub use walk::value;

@@ -1,0 +1,30 @@
+-- Where the enum of an answer stands beside the record, the two together say what the answer was made of.
+-- Assumes nothing.
+use mathlib.Core.Path.{_≡_, refl, sym, ap, _∙_}
+use Rattle.wire.specs.declared.write.Size.{Size}
+use Rattle.wire.specs.Reading.{Reading, read, refused}
+use Rattle.synchronization_parameters.specs.declared.synchronization_parameters_tlv.SynchronizationParametersTLV.{SynchronizationParametersTLV}
+use Rattle.synchronization_parameters.specs.declared.synchronization_parameters_tlv.ReadSynchronization.{ReadSynchronization}
+use Rattle.synchronization_parameters.specs.Said.{synchronizationRead}
+use Rattle.synchronization_parameters.specs.Outcomes.{sized}
+use Rattle.tlvs.specs.declared.search.Found.{Found}
+use Rattle.tlvs.specs.declared.search.FoundSynchronization.{FoundSynchronization}
+use Rattle.tlvs.specs.Search.{Search, found, nothing}
+use Rattle.tlvs.specs.Said.{synchronizationFound}
+
+-- a making that can be undone, told of an answer by its two parts
+beside : {A B C D : Type 0} (make : A → B) (part : B → C) (value : B → D) (undo : C → D → A) → ((a : A) → undo (part (make a)) (value (make a)) ≡ a)
+    → (a : A) {b : B} {c : C} → b ≡ make a → part b ≡ c → a ≡ undo c (value b)
+beside make part value undo back a p q = sym (rw (← q) (ap (λ b. undo (part b) (value b)) p ∙ back a))
+
+pub read-beside : (m : Reading SynchronizationParametersTLV) {r : ReadSynchronization} {answer : Size} → r ≡ synchronizationRead m → r .answer ≡ answer
+    → m ≡ sized answer (r .parameters)
+read-beside = beside synchronizationRead (λ r. r .answer) (λ r. r .parameters) sized (elim [ read p size ↦ refl | refused why ↦ refl ])
+
+abbrev placed : Found → SynchronizationParametersTLV → Search SynchronizationParametersTLV
+placed (Found.At it next) p = found p it next
+placed Found.Nothing p = nothing
+
+pub found-beside : (m : Search SynchronizationParametersTLV) {r : FoundSynchronization} {answer : Found} → r ≡ synchronizationFound m → r .found ≡ answer
+    → m ≡ placed answer (r .parameters)
+found-beside = beside synchronizationFound (λ r. r .found) (λ r. r .parameters) placed (elim [ found p it next ↦ refl | nothing ↦ refl ])

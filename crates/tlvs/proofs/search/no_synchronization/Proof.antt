@@ -1,0 +1,19 @@
+-- `no_synchronization` meets its contract: a value of no bytes is short at its first field, and a refusal's record is the zero one.
+-- Assumes nothing.
+use Rattle.synchronization_parameters.specs.SynchronizationReader.{synchronization, channels}
+use Rattle.tlvs.proofs.search.no_synchronization.Statement.{statement}
+use Rattle.tlvs.proofs.search.no_synchronization.Tie as tie
+use borrow.Author.Needs.{needs}
+
+slice-aggregate-read : tie.Need-slice-aggregate-read
+slice-aggregate-read c = search needs
+
+read-requires : tie.Need-read-requires
+read-requires c κs = search needs
+
+returns : tie.Need-returns
+unfolding synchronization channels
+returns c = rw (c .before .read .ensures)
+
+pub no-synchronization-spec : {M : Type 1} → statement M
+no-synchronization-spec = tie.close (tie.spec slice-aggregate-read read-requires returns)
