@@ -1,4 +1,4 @@
--- What a reading that was given tells of its parts: where each began, and that it stood within. These are laws of every format.
+-- A field that was read stood within, and behind one that does not fit no other does. These are laws of every format.
 -- Assumes nothing.
 use Prim.Native.Nat.{ℕ, _+_, _≤_, _<_}
 use native.Mathlib.Omega.{arith}
@@ -10,19 +10,8 @@ use lib.ListN.{length, take, drop}
 use borrow.Author.Tests.{leb-true, leb-false, lt-leb}
 use Rattle.wire.specs.declared.refusal.Refusal.{Refusal}
 use Rattle.wire.specs.declared.refusal.Refusal.the-variants.{Short}
-use Rattle.wire.specs.Reading.{Reading, read, refused, field, onward, give, _>>=_}
-use Rattle.wire.proofs.Lawful.{never}
-
--- one reader behind another: what the first gave, and where the second began
-pub record Parts {A B : Type 0} (r : Reading A) (f : A → ℕ → Reading B) (b : B) (next : ℕ) : Type 0 where
-  pub first : A
-  pub mid : ℕ
-  pub begins : r ≡ read first mid
-  pub goes : f first mid ≡ read b next
-
-pub parts : {A B : Type 0} (r : Reading A) (f : A → ℕ → Reading B) {b : B} {next : ℕ} → onward r f ≡ read b next → Parts r f b next
-parts (read a mid) f e = record { first = a; mid = mid; begins = refl; goes = e }
-parts (refused why) f e = absurd (never e)
+use Rattle.wire.specs.Reading.{read, refused, field, give, _>>=_}
+use Rattle.wire.proofs.Lawful.{never, steps}
 
 -- a field that was read stood within
 pub field-inside : (n : ℕ) (s : List ℕ) (at : ℕ) {a : List ℕ} {next : ℕ} → field n s at ≡ read a next
@@ -38,7 +27,7 @@ field-inside n s at {a} {next} e = go (leb (at + n) (length s)) refl e
 pub made-inside : {A : Type 0} (n : ℕ) (s : List ℕ) (at : ℕ) (g : List ℕ → A) {a : A} {next : ℕ}
     → (field n >>= λ x. give (g x)) s at ≡ read a next → (next ≡ at + n) × (at + n ≤ length s)
 made-inside n s at g {a} {next} e =
-    let p = parts (field n s at) (λ x next. give (g x) s next) e in
+    let p = steps (field n s at) (λ x next. give (g x) s next) e in
     let same : p .mid ≡ next = let e′ = p .goes in cc in
     let f = field-inside n s at (p .begins) in
     omega arith

@@ -15,7 +15,7 @@ use Rattle.tlvs.specs.declared.item.Item.{Item}
 use Rattle.tlvs.specs.declared.item.Step.{Step}
 use Rattle.tlvs.specs.Items.{stepAt, valueOf}
 use Rattle.tlvs.specs.Walk.{Walk}
-use Rattle.tlvs.specs.Search.{Accepted, kept, matched, accepted, allFrom, Search, found, nothing, behind, firstOf, nextFrom}
+use Rattle.tlvs.specs.Search.{Accepted, kept, matched, accepted, allFrom, allOf, Search, found, nothing, behind, firstOf, nextFrom}
 use Rattle.tlvs.proofs.item.Step as S
 use Rattle.tlvs.proofs.Steps.{step-stands}
 use Rattle.tlvs.proofs.Walks.{walk-goes}
@@ -147,3 +147,6 @@ module _ {A : Type 0} (n : ℕ) (r : Reader A) (s : List ℕ) where
   goes-through zero at h = absurd (omega arith)
   goes-through (suc m) at h =
       through at (nextFrom n r s at) (goingOn m (nextFrom n r s)) refl (λ next ahead inside. goes-through m next (omega arith))
+
+  pub goes-through-all : goingOn (suc (length s)) (nextFrom n r s) 0 ≡ allOf n r s
+  goes-through-all = goes-through (suc (length s)) 0 (omega arith)

@@ -13,7 +13,8 @@ use Rattle.wire.specs.Numbers.{number, little}
 use Rattle.tlvs.specs.declared.item.Item.{Item}
 use Rattle.tlvs.specs.declared.item.Step.{Step}
 use Rattle.tlvs.specs.Items.{item, found, stepAt}
-use Rattle.tlvs.proofs.Parts.{parts, field-inside, made-inside}
+use Rattle.wire.proofs.Lawful.{steps}
+use Rattle.tlvs.proofs.Parts.{field-inside, made-inside}
 
 -- an item at a place: it keeps the place, the next place is behind its value, and that one is within the tail
 pub record Stands (tail : List ℕ) (at : ℕ) (it : Item) (next : ℕ) : Type 0 where
@@ -24,9 +25,9 @@ pub record Stands (tail : List ℕ) (at : ℕ) (it : Item) (next : ℕ) : Type 0
 stands : (s : List ℕ) (at : ℕ) {it : Item} {next : ℕ} → item at s at ≡ read it next → Stands s at it next
 stands s at {it} {next} e =
     let made : ℕ → ℕ → Item = λ type size. record { at = at; «tlv_type» = type; length = size } in
-    let p = parts (number 1 s at) (λ type mid. (number 2 >>= λ size. field size >>= λ value. give (made type size)) s mid) e in
-    let q = parts (number 2 s (p .mid)) (λ size mid. (field size >>= λ value. give (made (p .first) size)) s mid) (p .goes) in
-    let r = parts (field (q .first) s (q .mid)) (λ value mid. read (made (p .first) (q .first)) mid) (q .goes) in
+    let p = steps (number 1 s at) (λ type mid. (number 2 >>= λ size. field size >>= λ value. give (made type size)) s mid) e in
+    let q = steps (number 2 s (p .mid)) (λ size mid. (field size >>= λ value. give (made (p .first) size)) s mid) (p .goes) in
+    let r = steps (field (q .first) s (q .mid)) (λ value mid. read (made (p .first) (q .first)) mid) (q .goes) in
     let one = made-inside 1 s at little (p .begins) in
     let two = made-inside 2 s (p .mid) little (q .begins) in
     let three = field-inside (q .first) s (q .mid) {a = r .first} {next = r .mid} (r .begins) in

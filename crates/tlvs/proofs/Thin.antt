@@ -10,14 +10,17 @@ use mir.Syntax.{Ty, Name, Fn, named, erased, imm, w8, w64, tyInt, tyRef, local, 
 use mir.Val.{Val, WT, hasTy, vint}
 use base.Logic.{SProp, ent, sep, emp, via, fst∗, snd∗, exE, id⊢}
 use base.Fml.{Lft, Share, Fml, ftrue, flft}
-use prog.Wp.{Heap, Calls, Loops, WpFn, Tables}
+use prog.Model.{Model}
+use prog.Routine.{Env, Routine}
+use prog.Wp.{Heap, Calls, Loops, WpFn, Closed}
 use ghost.Atoms.{Atoms, sem}
 use contract.Lifetimes.{Lfts}
 use contract.Monad.{fact}
+use contract.Running.{GhostRules, Running, givenOf, tables}
 use types.Kit.{Given, ‵, raw, _⊛_, given, ⋆, some, later, _$_, _∵_, !, qed, by, move, drop, use1, use2, split, join, learn, pick, fsplit, fjoin, suffices, frame, await, done}
 use types.Part.{whole, sub, look-in}
 use types.Run.{look, init, forget, stop, fld, from, load, of-opd, and-then, no-more, assigns, land, returns, enter, alloc1, alloc0, params1, pass1, pass0, free1, free0}
-use sound.WpLaws.{FmC, fmOf, WpFn-mono}
+use sound.WpLaws.{FmC}
 use denote.RattleType.{RattleType, owns}
 use denote.Laws.{Is, shows}
 use denote.Plain.{uint-makes}
@@ -35,10 +38,12 @@ use denote.Triple.Statement.{Contract, Triple}
 use denote.Triple.Call.{calls-at}
 use denote.Triple.Entry.{Vals, onEntry}
 use denote.Triple.Spec.{Meets, tripleOf}
-use denote.Triple.Walked.{says, Stays, stay-none, walkOf, goes-none, Walks, ends-at, walked, walk-meets}
+use denote.Triple.Table.{cited}
+use denote.Triple.Walked.{says, Stays, stay-none, walkOf, goes-none, Walks, ends-at, walked}
 use denote.Triple.Clauses.{Ended, Clauses, ensured, lasts, closing}
 use denote.Exit.{yes}
 use Rattle.tlvs.specs.declared.read_tlvs.ReadTLVs.{ReadTLVs}
+use Rattle.tlvs.proofs.ByHand.{by-walk}
 use Rattle.tlvs.proofs.read_tlvs.ReadTLVs as T
 use Rattle.tlvs.proofs.read_tlvs.ReadTLVs.Laws as T′
 
@@ -196,8 +201,14 @@ module _ (R : RattleType) (τ : Ty) (φ : List ℕ → ℕ → R .Denot → Type
           (λ κs. (LL.vals (D κs) (L κs), tt)) (λ κs. (LL.tells (D κs) (L κs), tt))
           (λ κs qs bounds a g are. via 𝓤 _ (fst∗ 𝓤 _ (emp 𝓤)) (walk (κs .0) (qs .0) (a .0) C Λ fm callee known (reader-typed 𝓤 H A W κs (a .0) (are .0))))
 
-      pub thin-meets : (𝓣 : Tables 𝓤 H) (callee : Name) → Triple 𝓤 (𝓣 .C callee) Promise
-          → Meets 𝓤 H A (over-reader .signature) (WpFn 𝓤 H (𝓣 .C) (𝓣 .Λ) (thin τ callee)) (closing 𝓤 H A over-reader reader-says)
-      thin-meets 𝓣 callee known =
-          walk-meets 𝓤 H A over-reader stayed W (goes-none 𝓤 H A W 1 B yes (λ κs x f. refl), tt) reader-says (WpFn 𝓤 H (𝓣 .C) (𝓣 .Λ) (thin τ callee)) (WpFn-mono 𝓤 H (W .laws) 𝓣 (thin τ callee))
-          (thin-walks (𝓣 .C) (𝓣 .Λ) (fmOf 𝓤 H (W .laws) 𝓣) callee known)
+  -- the method has the name k, and the function that it calls is the routine g
+  pub thin-spec : {M : Type 1} (𝓤 : URA M) (H : Heap 𝓤) (𝓜 : Model 𝓤 H) (𝓖 : GhostRules 𝓤 H) (𝓡 : Running 𝓤 H 𝓜) (γ : Env) (k callee : Name)
+      → ((r : R .Denot) (u : Val) → Is R r (u ∷ []) → Holds (hasTy τ u) × WT u)
+      → Closed 𝓤 H (tables 𝓤 H 𝓜 𝓡 γ .C) (tables 𝓤 H 𝓜 𝓡 γ .Λ) k (thin τ callee)
+      → (g : Routine) → γ callee ≡ g → Triple 𝓤 (𝓡 .run g) (Promise 𝓤 H (𝓖 .A))
+      → Meets 𝓤 H (𝓖 .A) (over-reader .signature) (𝓡 .run (γ k)) (closing 𝓤 H (𝓖 .A) over-reader (reader-says 𝓤 H (𝓖 .A)))
+  thin-spec 𝓤 H 𝓜 𝓖 𝓡 γ k callee typed closed g is known =
+      let W = givenOf 𝓤 H 𝓜 𝓖 in
+      by-walk 𝓤 H 𝓜 𝓖 𝓡 γ k (thin τ callee) over-reader stayed (reader-says 𝓤 H (𝓖 .A)) closed
+      (goes-none 𝓤 H (𝓖 .A) W 1 B yes (λ κs x f. refl), tt)
+      (λ fm. thin-walks 𝓤 H (𝓖 .A) W typed (tables 𝓤 H 𝓜 𝓡 γ .C) (tables 𝓤 H 𝓜 𝓡 γ .Λ) fm callee (cited 𝓤 H (Promise 𝓤 H (𝓖 .A)) 𝓜 𝓡 γ callee g is known))

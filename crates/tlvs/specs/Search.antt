@@ -35,6 +35,10 @@ accepted type reader tail (it ∷ rest) = matched type reader tail it ++ accepte
 unfoldable pub allFrom : {A : Type 0} → ℕ → Reader A → List ℕ → ℕ → List (Accepted A)
 allFrom type reader tail at = accepted type reader tail (walkAt tail at .items)
 
+-- all of a tail
+abbrev pub allOf : {A : Type 0} → ℕ → Reader A → List ℕ → List (Accepted A)
+allOf type reader tail = allFrom type reader tail 0
+
 -- what a search finds: a record, its item and the place behind it, from which one goes on; or no such item
 pub data Search (A : Type 0) : Type 0 where
   found : A → Item → ℕ → Search A

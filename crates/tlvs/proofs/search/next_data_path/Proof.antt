@@ -10,6 +10,7 @@ use Rattle.tlvs.specs.Search.{nextDataPath}
 use Rattle.wire.proofs.Once.{told}
 use borrow.Author.Needs.{needs}
 use lib.ListN.{length}
+use native.Mathlib.Omega.{arith}
 use mathlib.Core.Path.{_≡_, refl, _∙_}
 
 abbrev Inv-loop : tie.InvT-loop
@@ -46,12 +47,12 @@ returns-2 c =
     c .before .before .match-and-parse-data-path .ensures ∙ taken
 
 loop-less : tie.Need-loop-less Inv-loop μ-loop
-loop-less c = step-less _ _ (c .before .before .before .before .before .before .step .ensures) (c .before .before .before .before .item .given .1)
+loop-less c = omega (arith, step-less _ _ (c .before .before .before .before .before .before .step .ensures) (c .before .before .before .before .item .given .1))
 
 loop-again : tie.Need-loop-again Inv-loop μ-loop
 loop-again c =
-    let here = told saidFoundDataPath (c .before .before .match-and-parse-data-path .ensures) (c .enum-told .given .1) in
-    search-passes 0x0C dataPath _ _ _ (c .before .before .before .before .before .before .before .loop .inv) (c .before .before .before .before .before .before .step .ensures) (c .before .before .before .before .item .given .1) here
+    search-passes 0x0C dataPath _ _ _ (c .before .before .before .before .before .before .before .loop .inv) (c .before .before .before .before .before .before .step .ensures) (c .before .before .before .before .item .given .1)
+    (told saidFoundDataPath (c .before .before .match-and-parse-data-path .ensures) (c .enum-told .given .1))
 
 pub next-data-path-spec : {M : Type 1} → statement M
 next-data-path-spec =

@@ -10,6 +10,7 @@ use Rattle.tlvs.specs.Said.{synchronizationFound}
 use Rattle.tlvs.specs.Search.{nextSynchronization}
 use borrow.Author.Needs.{needs}
 use lib.ListN.{length}
+use native.Mathlib.Omega.{arith}
 use mathlib.Core.Path.{_≡_, refl, ap, _∙_}
 
 abbrev Inv-loop : tie.InvT-loop
@@ -52,7 +53,7 @@ returns-2 c =
     c .before .before .match-and-parse-synchronization .ensures ∙ ap synchronizationFound taken
 
 loop-less : tie.Need-loop-less Inv-loop μ-loop
-loop-less c = step-less _ _ (c .before .before .before .before .before .before .step .ensures) (c .before .before .before .before .item .given .1)
+loop-less c = omega (arith, step-less _ _ (c .before .before .before .before .before .before .step .ensures) (c .before .before .before .before .item .given .1))
 
 loop-again : tie.Need-loop-again Inv-loop μ-loop
 loop-again c =

@@ -1,31 +1,23 @@
 -- `ReadTLVs::first_synchronization` meets its contract: it is a thin method over `next_synchronization`, of which only the contract is known.
 -- Assumes nothing.
 use mathlib.Core.Path.{_≡_}
+use mathlib.Core.List.{[], _∷_}
+use contract.Running.{givenOf}
+use denote.Struct.Laws as laws
 use Rattle.tlvs.specs.Said.{synchronizationFound}
 use Rattle.tlvs.specs.Search.{nextSynchronization}
-use mathlib.Core.List.{[], _∷_}
-use contract.Running.{givenOf, tables, tablesOf}
-use denote.Struct.Laws as LL
-use denote.Triple.Spec.{tripleOf}
-use denote.Triple.Table.{entered, cited}
 use Rattle.tlvs.proofs.search.FoundSynchronization as R
 use Rattle.tlvs.proofs.search.FoundSynchronization.Laws as R′
-use Rattle.tlvs.proofs.search.next_synchronization as callee
-use Rattle.tlvs.proofs.search.next_synchronization.Symbol as callee-def
-use Rattle.tlvs.proofs.search.next_synchronization.Met as callee-thm
-use Rattle.tlvs.proofs.Thin.{thin-meets}
+use Rattle.tlvs.proofs.search.next_synchronization.Symbol as callee
+use Rattle.tlvs.proofs.search.next_synchronization.Met as known
+use Rattle.tlvs.proofs.Thin.{thin-spec}
 use Rattle.tlvs.proofs.read_tlvs.ReadTLVs.first_synchronization.Key as key
-use Rattle.tlvs.proofs.read_tlvs.ReadTLVs.first_synchronization as method
 use Rattle.tlvs.proofs.read_tlvs.ReadTLVs.first_synchronization.Statement.{statement}
 use Rattle.tlvs.proofs.read_tlvs.ReadTLVs.first_synchronization.Code as code
 
 pub first-synchronization-spec : {M : Type 1} → statement M
-unfolding code.routine tablesOf
+unfolding code.routine
 first-synchronization-spec 𝓤 H 𝓜 𝓖 𝓡 =
-    let W = givenOf 𝓤 H 𝓜 𝓖 in
-    let known = callee.spec 𝓤 H (𝓖 .A) (𝓜 .mem) (𝓡 .run) in
-    entered 𝓤 H (tripleOf 𝓤 H (𝓖 .A) method.signature (method.spec 𝓤 H (𝓖 .A) (𝓜 .mem) (𝓡 .run)))
-    (tables 𝓤 H 𝓜 𝓡 code.env .C) (tables 𝓤 H 𝓜 𝓡 code.env .Λ) key.name code.function (code.unfolded 𝓤 H 𝓜 𝓡)
-    (thin-meets R.the-row R′.mir (λ bytes at r. r ≡ synchronizationFound (nextSynchronization bytes at)) 𝓤 H (𝓖 .A) W (λ r u is. LL.lawful R.the-type R′.the-laws 𝓤 H (𝓖 .A) W .typed r (u ∷ []) is .0)
-    (tablesOf 𝓤 H 𝓜 (tables 𝓤 H 𝓜 𝓡 code.env)) callee-def.name
-    (cited 𝓤 H (tripleOf 𝓤 H (𝓖 .A) callee.signature known) 𝓜 𝓡 code.env callee-def.name callee-def.routine code.calls-tlvs·search·next-synchronization (callee-thm.met 𝓤 H 𝓜 𝓖 𝓡)))
+    thin-spec R.the-row R′.mir (λ bytes at r. r ≡ synchronizationFound (nextSynchronization bytes at)) 𝓤 H 𝓜 𝓖 𝓡 code.env key.name callee.name
+    (λ r u is. laws.lawful R.the-type R′.the-laws 𝓤 H (𝓖 .A) (givenOf 𝓤 H 𝓜 𝓖) .typed r (u ∷ []) is .0)
+    (code.unfolded 𝓤 H 𝓜 𝓡) callee.routine code.calls-tlvs·search·next-synchronization (known.met 𝓤 H 𝓜 𝓖 𝓡)
