@@ -1,19 +1,29 @@
-// Reads one frame from standard input and prints what it says, a line for each thing.
-mod show;
+// Reads one input and writes its report. What is written is made by the library.
+ghost use mathlib.Core.Path.{_≡_};
+ghost use lib.ListN.{length};
+use report::Line;
 
-// The reader of one more byte settles whether the input ended within the limit.
-fn more_follows() -> bool {
-    let mut one = [0u8; 1];
-    io::read_full(0, &mut one) != 0
+// It has room for the longest frame, of 4,096 bytes, and for one byte more, which tells that there is more.
+fn room() -> [u8; 4097]
+    ensures { λ r. ⌜ 4097 ≡ length r ⌝ }
+{
+    [0; 4097]
+}
+
+fn show(input: &[u8]) {
+    let mut line = [0u8; 128];
+    let mut at = report::start(input);
+    loop {
+        let Line::Text(n, next) = report::next_line(input, at, &mut line) else {
+            return;
+        };
+        io::write_all(1, &line[..n]);
+        at = next;
+    }
 }
 
 fn main() {
-    // It has room for the longest frame, of 4,096 bytes.
-    let mut space = io::buffer();
+    let mut space = room();
     let n = io::read_full(0, &mut space);
-    if more_follows() {
-        show::too_long();
-        return;
-    }
-    show::frame(&space[..n]);
+    show(&space[..n]);
 }

@@ -1,0 +1,26 @@
+-- `one_number` meets its contract: its words and digits stand behind each other, with room for all.
+-- Assumes nothing.
+use Rattle.report.proofs.Laid.{laid-then}
+use Rattle.report.proofs.lines.one_number.Statement.{statement}
+use Rattle.report.proofs.lines.one_number.Tie as tie
+use borrow.Author.Needs.{needs}
+
+put-named-requires : tie.Need-put-named-requires
+put-named-requires c κs = search needs
+
+slice-aggregate-put-word : tie.Need-slice-aggregate-put-word
+slice-aggregate-put-word c = search needs
+
+put-word-requires : tie.Need-put-word-requires
+put-word-requires c κs = search needs
+
+same-length : tie.Need-same-length
+same-length c = search needs
+
+returns : tie.Need-returns
+returns c = laid-then (c .before .before .before .before .before .before .before .put-named .ensures .0) (c .before .before .put-word .ensures .0)
+
+pub one-number-spec : {M : Type 1} → statement M
+one-number-spec =
+    tie.close
+    (tie.spec put-named-requires slice-aggregate-put-word put-word-requires same-length returns)

@@ -1,0 +1,9 @@
+// The report of a frame: its lines, one at a time, each in a small buffer that the caller lends.
+mod lines;
+mod marks;
+mod text;
+
+pub use marks::Line;
+pub use marks::Mark;
+pub use marks::next_line;
+pub use marks::start;

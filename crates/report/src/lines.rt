@@ -1,0 +1,97 @@
+// A function for each line. Its words and the most digits of its numbers leave room in 128 bytes.
+ghost use Prim.Native.Nat.{_+_, _<_, _≤_, _^_};
+ghost use mathlib.Core.Path.{_≡_};
+ghost use mathlib.Core.List.{_++_};
+ghost use lib.ListN.{length};
+ghost use Rattle.wire.specs.Refusals.{numberOf};
+ghost use Rattle.action_frame.specs.Said.{saidDelta};
+ghost use Rattle.report.specs.Text.{text, decimal, named};
+ghost use Rattle.report.specs.Lines.{deltaWords, headerLine, itemLine};
+ghost use Rattle.report.specs.Shown.{Laid};
+use crate::text::put_named;
+use crate::text::put_word;
+use action_frame::AWDLActionFrame;
+use action_frame::Delta;
+use action_frame::tx_delta;
+use tlvs::Item;
+use wire::Refusal;
+
+pub(crate) fn of_u8(x: u8) -> u64
+    ensures { λ r. ⌜ r ≡ x ⌝ }
+{
+    x as u64
+}
+
+pub(crate) fn of_u16(x: u16) -> u64
+    ensures { λ r. ⌜ r ≡ x ⌝ }
+{
+    x as u64
+}
+
+pub(crate) fn of_u32(x: u32) -> u64
+    ensures { λ r. ⌜ r ≡ x ⌝ }
+{
+    x as u64
+}
+
+pub(crate) fn of_usize(x: usize) -> u64
+    ensures { λ r. ⌜ r ≡ x ⌝ }
+{
+    x as u64
+}
+
+// A line of a word and a number.
+pub(crate) fn one_number(out: &mut [u8], word: &[u8], n: u64) -> usize
+    requires { ⌜ 128 ≤ length (now out) ⌝ }
+    requires { ⌜ length (now word) ≤ 20 ⌝ }
+    ensures { λ r. ⌜ Laid (now (out .entry)) 0 (now (word .entry) ++ decimal n ++ text "\n") r (now (out .exit)) ⌝ }
+{
+    let a = put_named(out, 0, word, n);
+    put_word(out, a, b"\n")
+}
+
+// A line of two.
+pub(crate) fn two_numbers(out: &mut [u8], first: &[u8], m: u64, second: &[u8], n: u64) -> usize
+    requires { ⌜ 128 ≤ length (now out) ⌝ }
+    requires { ⌜ length (now first) + length (now second) ≤ 40 ⌝ }
+    ensures { λ r. ⌜ Laid (now (out .entry)) 0 (now (first .entry) ++ decimal m ++ (now (second .entry) ++ decimal n) ++ text "\n") r (now (out .exit)) ⌝ }
+{
+    let a = put_named(out, 0, first, m);
+    let b = put_named(out, a, second, n);
+    put_word(out, b, b"\n")
+}
+
+fn put_delta(out: &mut [u8], at: usize, d: Delta) -> usize
+    requires { ⌜ at + 27 ≤ length (now out) ⌝ }
+    ensures { λ r. ⌜ Laid (now (out .entry)) at (deltaWords (saidDelta d)) r (now (out .exit)) ⌝ }
+    ensures { λ r. ⌜ r ≤ at + 27 ⌝ }
+{
+    match d {
+        Delta::Micros(gap) => put_named(out, at, b" delta=", of_u32(gap)),
+        Delta::Refused(_) => put_word(out, at, b" delta=none"),
+    }
+}
+
+pub(crate) fn header(out: &mut [u8], f: AWDLActionFrame) -> usize
+    requires { ⌜ 128 ≤ length (now out) ⌝ }
+    ensures { λ r. ⌜ Laid (now (out .entry)) 0 (headerLine f) r (now (out .exit)) ⌝ }
+{
+    let phy = f.phy_tx_time;
+    let target = f.target_tx_time;
+    let a = put_named(out, 0, b"frame subtype=", of_u8(f.subtype));
+    let b = put_named(out, a, b" phy=", of_u32(phy.0));
+    let c = put_named(out, b, b" target=", of_u32(target.0));
+    let d = put_delta(out, c, tx_delta(phy, target));
+    put_word(out, d, b"\n")
+}
+
+// The place is that in the frame.
+pub(crate) fn item(out: &mut [u8], place: u64, tlv_type: u64, len: u64) -> usize
+    requires { ⌜ 128 ≤ length (now out) ⌝ }
+    ensures { λ r. ⌜ Laid (now (out .entry)) 0 (named "item at=" place ++ named " type=" «tlv_type» ++ named " length=" len ++ text "\n") r (now (out .exit)) ⌝ }
+{
+    let a = put_named(out, 0, b"item at=", place);
+    let b = put_named(out, a, b" type=", tlv_type);
+    let c = put_named(out, b, b" length=", len);
+    put_word(out, c, b"\n")
+}
