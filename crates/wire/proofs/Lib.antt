@@ -2,6 +2,7 @@ pub mod Lawful
 pub mod ReadsBack
 pub mod Gives
 pub mod Again
+pub mod Fixed
 pub mod Once
 pub mod Bytes
 pub mod Stores
