@@ -3,8 +3,8 @@
 use Prim.Native.Nat.{ℕ, zero, suc, _+_, _*_, _-_, _≤_, _<_}
 use native.Mathlib.Nat.{add-suc, add-zero}
 use native.Mathlib.Omega.{arith}
-use mathlib.Core.Path.{_≡_, refl, sym, ap, _∙_}
-use mathlib.Core.Bool.{Bool, true, false, cond}
+use mathlib.Core.Path.{_≡_, refl, ap}
+use mathlib.Core.Bool.{Bool, true, false}
 use mathlib.Core.List.{List, [], _∷_, _++_}
 use lib.Dec.{leb}
 use lib.ListN.{length, getD, take, drop, length-drop, take-append-drop}
@@ -94,3 +94,8 @@ within-room room (answer m) {n} e = go (leb m room) refl
         (ap answer same, rw same at (leb-true m room q))
     go false q = absurd (let e′ = rw q at e in let z : _≡_ {A = ℕ} 0 1 = cc in omega arith)
 within-room room (refusal why) e = absurd (let z : _≡_ {A = ℕ} 0 1 = cc in omega arith)
+
+-- a size that is known beforehand
+pub known-room : (room size : ℕ) {n : ℕ} → answer n ≡ within room (answer size) → (size ≡ n) × (n ≤ room)
+known-room room size {n} e =
+    let found : (answer size ≡ answer n) × (n ≤ room) = within-room room (answer size) e in ((cc), found .1)

@@ -5,6 +5,7 @@ pub mod Again
 pub mod Fixed
 pub mod Once
 pub mod Bytes
+pub mod Places
 pub mod Stores
 pub mod Words
 pub mod Tests

@@ -1,17 +1,17 @@
 -- What was written is read back, from any place and with anything behind, proved once for each way of putting readers together.
 -- Assumes nothing.
-use Prim.Native.Nat.{ℕ, zero, suc, _+_, _*_, _/_, _%_, _^_, _≤_, _<_}
+use Prim.Native.Nat.{ℕ, zero, suc, _+_, _/_, _^_, _≤_, _<_}
 use native.Mathlib.Nat.{add-zero, add-assoc, pow-suc, div-lt-iff-lt-mul}
 use native.Mathlib.Omega.{arith}
-use mathlib.Core.Path.{_≡_, refl, sym, ap, _∙_}
+use mathlib.Core.Path.{_≡_, refl, ap}
 use mathlib.Core.Bool.{Bool, true, false, cond}
 use mathlib.Core.List.{List, [], _∷_, _++_, append-assoc}
 use lib.Dec.{lit<}
-use lib.ListN.{length, take, drop, length-append}
+use lib.ListN.{length, length-append}
 use lib.Seq.{drop-append-seam, take-append-seam}
 use borrow.Author.Tests.{le-leb}
 use Rattle.wire.specs.declared.read.MACAddress.{MACAddress}
-use Rattle.wire.specs.Reading.{Reading, Reader, read, give, field, _>>=_, when}
+use Rattle.wire.specs.Reading.{Reader, read, give, field, _>>=_, when}
 use Rattle.wire.specs.Answer.{Answer, answer, asked}
 use Rattle.wire.specs.Numbers.{little, littleBytes, number}
 use Rattle.wire.specs.Addresses.{address, addressOf, addressBytes}

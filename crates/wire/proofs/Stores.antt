@@ -1,6 +1,6 @@
 -- What code that stores byte after byte leaves is what `putting` says; putting one run behind another is putting both at once.
 -- Assumes nothing.
-use Prim.Native.Nat.{ℕ, zero, suc, _+_, _-_, _≤_, _<_}
+use Prim.Native.Nat.{ℕ, suc, _+_, _-_, _≤_, _<_}
 use native.Mathlib.Nat.{add-suc, add-zero, zero-add, add-assoc}
 use native.Mathlib.Numerals.{add-one}
 use native.Mathlib.Omega.{arith}
@@ -8,12 +8,12 @@ use mathlib.Core.Path.{_≡_, refl, sym, ap, _∙_}
 use mathlib.Core.Bool.{Bool, true, false}
 use mathlib.Core.List.{List, [], _∷_, _++_, append-assoc, append-nil}
 use lib.Dec.{leb}
-use lib.ListN.{length, take, drop, set, length-set, length-append, length-take, length-drop, take-append-drop}
+use lib.ListN.{length, take, drop, set, length-append, length-take, length-drop, take-append-drop}
 use lib.Seq.{sets, sets-eq, paste, paste-zero, take-length, take-at, drop-append-add, drop-drop}
 use borrow.Author.Tests.{le-leb, lt-leb, leb-true, leb-false}
 use Rattle.wire.specs.declared.refusal.Refusal.{Refusal}
 use Rattle.wire.specs.Answer.{Answer, answer, refusal}
-use Rattle.wire.specs.Writing.{fits, putting, behind, Put, within, lengthOf, Wrote}
+use Rattle.wire.specs.Writing.{fits, behind, Put, within, lengthOf, Wrote}
 
 -- bytes stored one after the other, the first of them k behind a place
 abbrev pub over : List ℕ → ℕ → ℕ → List ℕ → List ℕ

@@ -1,10 +1,10 @@
 -- `SynchronizationParametersTLV::write` meets its contract: the room is settled first, and then the fields are put.
 -- Assumes nothing.
 use Prim.Native.Nat.{_≤_}
-use Rattle.synchronization_parameters.proofs.Room.{known-room}
 use Rattle.synchronization_parameters.proofs.synchronization_parameters_tlv.SynchronizationParametersTLV.write.Statement.{statement}
 use Rattle.synchronization_parameters.proofs.synchronization_parameters_tlv.SynchronizationParametersTLV.write.Tie as tie
 use Rattle.synchronization_parameters.specs.SynchronizationBytes.{bytesOf}
+use Rattle.wire.proofs.Bytes.{known-room}
 use Rattle.wire.proofs.Stores.{wrote-all, wrote-none}
 use Rattle.wire.specs.Answer.{answer}
 use Rattle.wire.specs.Said.{saidSize}
