@@ -53,7 +53,7 @@ fieldsOf s =
       «ap_beacon_alignment_delta» = wordAt s 31;
     }
 
-inside : (s : List ℕ) → 33 ≤ length s → (k : ℕ) → leb k 33 ≡ true → leb k (length s) ≡ true
+pub inside : (s : List ℕ) → 33 ≤ length s → (k : ℕ) → leb k 33 ≡ true → leb k (length s) ≡ true
 inside s h k e = le-leb k (length s) (omega (arith, leb-true k 33 e))
 
 pub whole : (s : List ℕ) → 33 ≤ length s → synchronization s 0 ≡ read (fieldsOf s) 33
