@@ -1,3 +1,3 @@
 pub mod Once
-pub mod Parts
+pub mod Sizes
 pub mod RoundTrip

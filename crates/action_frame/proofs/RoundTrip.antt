@@ -19,7 +19,8 @@ use Rattle.wire.proofs.Lawful.{Lawful, bind-lawful, asked-lawful, made-lawful, 
 use Rattle.wire.proofs.ReadsBack.{Back, bind-back, asked-back, made-back, field-back, number-back}
 use Rattle.action_frame.specs.declared.AWDLActionFrame.{AWDLActionFrame}
 use Rattle.action_frame.specs.Frames.{fixedByte, subtype, subtypeBytes, header, tailOf, headerBytes, bytesOf}
-use Rattle.action_frame.proofs.Parts.{fits-room, length-header, length-bytes}
+use Rattle.wire.proofs.Bytes.{known-room}
+use Rattle.action_frame.proofs.Sizes.{length-header, length-bytes}
 
 -- the numbers of a header stand within their widths, as those of the code do
 pub record InWidth (f : AWDLActionFrame) : Type 0 where
@@ -69,7 +70,7 @@ pub written-back : (f : AWDLActionFrame) (tail s : List ℕ) {n : ℕ} {after : 
 written-back f tail s {n} {after} w p =
     let filled = round-trip f tail w in
     let bytes = bytesOf f tail in
-    let size : length bytes ≡ n = fits-room (length s) (length bytes) (p .size) .0 in
+    let size : length bytes ≡ n = known-room (length s) (length bytes) (p .size) .0 in
     let laid : after ≡ bytes ++ drop n s = p .buffer ∙ rw (← p .size) in (
       rw laid (filled .head (drop n s)),
       rw (laid, take-at bytes (drop n s) n size) (filled .rest),

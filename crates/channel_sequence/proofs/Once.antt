@@ -3,8 +3,8 @@
 use Prim.Native.Nat.{ℕ}
 use mathlib.Core.Path.{_≡_, refl}
 use mathlib.Core.Bool.{Bool, cond}
-use Rattle.wire.specs.Answer.{Answer, answer, refusal}
-use Rattle.wire.proofs.Once.{once}
+use Rattle.wire.specs.Answer.{Answer}
+use Rattle.wire.proofs.Once.{once, ofAnswer}
 use Rattle.channel_sequence.specs.declared.channel.ChannelEncoding.{ChannelEncoding}
 use Rattle.channel_sequence.specs.declared.channel.FoundEncoding.{FoundEncoding}
 use Rattle.channel_sequence.specs.declared.channel.Corrected.{Corrected}
@@ -13,16 +13,14 @@ use Rattle.channel_sequence.specs.Said.{saidEncoding, saidCorrected, sai
 
 pub onceEncoding : {m : Answer ChannelEncoding} {a b : FoundEncoding} → saidEncoding a ≡ m → saidEncoding b ≡ m → a ≡ b
 onceEncoding =
-    once saidEncoding (elim [ answer encoding ↦ FoundEncoding.Known encoding | refusal why ↦ FoundEncoding.Refused why ])
+    once saidEncoding (ofAnswer FoundEncoding.Known FoundEncoding.Refused)
     (elim [ FoundEncoding.Known encoding ↦ refl | FoundEncoding.Refused why ↦ refl ])
 
 pub onceCorrected : {m : Answer ℕ} {a b : Corrected} → saidCorrected a ≡ m → saidCorrected b ≡ m → a ≡ b
 onceCorrected =
-    once saidCorrected (elim [ answer channel ↦ Corrected.Channel channel | refusal why ↦ Corrected.Refused why ])
-    (elim [ Corrected.Channel channel ↦ refl | Corrected.Refused why ↦ refl ])
+    once saidCorrected (ofAnswer Corrected.Channel Corrected.Refused) (elim [ Corrected.Channel channel ↦ refl | Corrected.Refused why ↦ refl ])
 
 pub onceConsistent : {m : Answer Bool} {a b : Consistency} → saidConsistent a ≡ m → saidConsistent b ≡ m → a ≡ b
 onceConsistent =
-    once saidConsistent
-    (elim [ answer b ↦ cond b Consistency.Yes Consistency.No | refusal why ↦ Consistency.Refused why ])
+    once saidConsistent (ofAnswer (λ b. cond b Consistency.Yes Consistency.No) Consistency.Refused)
     (elim [ Consistency.Yes ↦ refl | Consistency.No ↦ refl | Consistency.Refused why ↦ refl ])

@@ -1,102 +1,94 @@
--- A record is read exactly where 33 bytes stand, and takes them all: each field of it always takes as many bytes, and so do fields behind each other.
+-- A record is read exactly where 33 bytes stand, each field at its offset: the first 33 bytes are taken apart and computed with; a shorter value is a longer one, cut.
 -- Assumes nothing.
-use Prim.Native.Nat.{ℕ, _+_, _≤_, _<_}
-use native.Mathlib.Nat.{add-assoc}
+use Prim.Native.Nat.{ℕ, _≤_, _<_}
+use native.Mathlib.Nat.{add-zero}
 use native.Mathlib.Omega.{arith}
 use native.Mathlib.Decide.{decLe}
 use mathlib.Core.Logic.{dite}
-use mathlib.Core.Path.{_≡_}
-use mathlib.Core.List.{List}
-use lib.ListN.{length, take, drop}
-use borrow.Author.Tests.{le-leb, lt-leb}
+use mathlib.Core.Path.{_≡_, subst}
+use mathlib.Core.Bool.{true}
+use mathlib.Core.List.{List, [], _∷_, _++_}
+use lib.Dec.{leb}
+use lib.ListN.{length, getD, take, drop, replicate, length-append}
+use lib.Seq.{take-append-seam}
+use borrow.Author.Tests.{le-leb, leb-true}
 use Rattle.wire.specs.declared.refusal.Refusal.the-variants.{Short}
-use Rattle.wire.specs.Reading.{Reading, Reader, read, refused, give, field, _>>=_}
-use Rattle.wire.specs.Numbers.{little, number}
-use Rattle.wire.specs.Addresses.{addressOf}
-use Rattle.wire.proofs.Lawful.{Lawful, bind-lawful, made-lawful, field-lawful}
-use Rattle.synchronization_parameters.specs.SynchronizationReader.{channels, periods, lengths, counts, presenceMode, master, synchronization}
+use Rattle.wire.specs.Reading.{read, refused}
+use Rattle.wire.specs.Answer.{answer, placeOf}
+use Rattle.wire.specs.Numbers.{little}
+use Rattle.wire.proofs.Bytes.{from, opened}
+use Rattle.wire.proofs.Lawful.{Lawful, cut-short}
+use Rattle.wire.proofs.Fixed.{Fixed, give-fixed, field-fixed, bind-fixed, number-fixed, address-fixed}
+use Rattle.synchronization_parameters.specs.declared.synchronization_parameters_tlv.SynchronizationParametersTLV.{SynchronizationParametersTLV}
+use Rattle.synchronization_parameters.specs.SynchronizationReader.{synchronization}
 
--- something was read, up to a place
-pub record Took {A : Type 0} (r : Reading A) (next : ℕ) : Type 0 where
-  pub value : A
-  pub found : r ≡ read value next
+abbrev byteAt : List ℕ → ℕ → ℕ
+byteAt s at = getD s at 0
 
--- a lawful reader that takes the next n bytes, whatever they are, and is short where there are fewer
-pub record Wide {A : Type 0} (r : Reader A) (n : ℕ) : Type 0 where
-  pub lawful : Lawful r
-  pub whole : (s : List ℕ) (at : ℕ) → at + n ≤ length s → Took (r s at) (at + n)
-  pub short : (s : List ℕ) (at : ℕ) → length s < at + n → r s at ≡ refused Short
+abbrev wordAt : List ℕ → ℕ → ℕ
+wordAt s at = little (take 2 (drop at s))
 
-field-wide : (n : ℕ) → Wide (field n) n
-field-wide n =
+-- the fields at their offsets
+abbrev pub fieldsOf : List ℕ → SynchronizationParametersTLV
+fieldsOf s =
     record {
-      lawful = field-lawful n;
-      whole = λ s at h. record { value = take n (drop at s); found = rw (le-leb (at + n) (length s) h) };
-      short = λ s at h. rw (lt-leb (at + n) (length s) h);
+      «next_channel» = byteAt s 0;
+      «tx_counter» = wordAt s 1;
+      «master_channel» = byteAt s 3;
+      «guard_time» = byteAt s 4;
+      «aw_period» = wordAt s 5;
+      «af_period» = wordAt s 7;
+      «awdl_flags» = wordAt s 9;
+      «aw_ext_length» = wordAt s 11;
+      «aw_common_length» = wordAt s 13;
+      «remaining_aw_length» = wordAt s 15;
+      «min_ext_count» = byteAt s 17;
+      «max_multicast_ext_count» = byteAt s 18;
+      «max_unicast_ext_count» = byteAt s 19;
+      «max_af_ext_count» = byteAt s 20;
+      «master_address» =
+          record { 0 = byteAt s 21; 1 = byteAt s 22; 2 = byteAt s 23; 3 = byteAt s 24; 4 = byteAt s 25; 5 = byteAt s 26 };
+      «presence_mode» = byteAt s 27;
+      «aw_seq_number» = wordAt s 29;
+      «ap_beacon_alignment_delta» = wordAt s 31;
     }
 
-bind-wide : {A B : Type 0} {m : Reader A} {f : A → Reader B} (i j : ℕ) → Wide m i → ((a : A) → Wide (f a) j) → Wide (m >>= f) (i + j)
-bind-wide i j first second =
-    record {
-      lawful = bind-lawful (first .lawful) (λ a. second a .lawful);
-      whole = λ s at h.
-          let a = first .whole s at (omega arith) in
-          let b = second (a .value) .whole s (at + i) (omega arith) in
-          record { value = b .value; found = rw (a .found, b .found, add-assoc at i j) };
-      short = λ s at h.
-          dite (decLe (at + i) (length s))
-          (λ inside.
-          let a = first .whole s at inside in
-          rw (a .found) (second (a .value) .short s (at + i) (omega arith)))
-          (λ past. rw (first .short s at (omega arith)));
-    }
+pub inside : (s : List ℕ) → 33 ≤ length s → (k : ℕ) → leb k 33 ≡ true → leb k (length s) ≡ true
+inside s h k e = le-leb k (length s) (omega (arith, leb-true k 33 e))
 
--- the last step of a format takes no byte
-made-wide : {A B : Type 0} {m : Reader A} {n : ℕ} (g : A → B) → Wide m n → Wide (m >>= λ x. give (g x)) n
-made-wide {n = n} g w =
-    record {
-      lawful = made-lawful g (w .lawful);
-      whole = λ s at h. let a = w .whole s at h in record { value = g (a .value); found = rw (a .found) };
-      short = λ s at h. rw (w .short s at h);
-    }
-
-number-wide : (n : ℕ) → Wide (number n) n
-number-wide n = made-wide little (field-wide n)
-
-channels-wide : Wide channels 5
-unfolding channels
-channels-wide =
-    bind-wide 1 4 (number-wide 1) (λ a. bind-wide 2 2 (number-wide 2) (λ b. bind-wide 1 1 (number-wide 1) (λ c. made-wide _ (number-wide 1))))
-
-periods-wide : Wide periods 6
-unfolding periods
-periods-wide = bind-wide 2 4 (number-wide 2) (λ a. bind-wide 2 2 (number-wide 2) (λ b. made-wide _ (number-wide 2)))
-
-lengths-wide : Wide lengths 6
-unfolding lengths
-lengths-wide = bind-wide 2 4 (number-wide 2) (λ a. bind-wide 2 2 (number-wide 2) (λ b. made-wide _ (number-wide 2)))
-
-counts-wide : Wide counts 4
-unfolding counts
-counts-wide =
-    bind-wide 1 3 (number-wide 1) (λ a. bind-wide 1 2 (number-wide 1) (λ b. bind-wide 1 1 (number-wide 1) (λ c. made-wide _ (number-wide 1))))
-
-master-wide : Wide master 12
-unfolding master presenceMode
-master-wide =
-    bind-wide 6 6 (made-wide addressOf (field-wide 6))
-    (λ a. bind-wide 2 4 (made-wide _ (field-wide 2))
-    (λ b. bind-wide 2 2 (number-wide 2)
-    (λ c. made-wide _ (number-wide 2))))
-
-pub synchronization-wide : Wide synchronization 33
+pub whole : (s : List ℕ) → 33 ≤ length s → synchronization s 0 ≡ read (fieldsOf s) 33
 unfolding synchronization
-synchronization-wide =
-    bind-wide 5 28 channels-wide
-    (λ c. bind-wide 6 22 periods-wide
-    (λ p. bind-wide 6 16 lengths-wide
-    (λ l. bind-wide 4 12 counts-wide
-    (λ n. made-wide _ master-wide))))
+whole s h =
+    let bytes : List ℕ = from s 0 0 33 ++ drop 33 s in
+    let enough : 33 ≤ length bytes = omega arith in
+    subst (λ (l : List ℕ). synchronization l 0 ≡ read (fieldsOf l) 33) (opened 33 s h) (simp (inside bytes enough, add-zero))
+
+-- the width of each field
+abbrev pub widths : List ℕ
+widths = 1 ∷ 2 ∷ 1 ∷ 1 ∷ 2 ∷ 2 ∷ 2 ∷ 2 ∷ 2 ∷ 2 ∷ 1 ∷ 1 ∷ 1 ∷ 1 ∷ 6 ∷ 2 ∷ 2 ∷ 2 ∷ []
+
+pub synchronization-fixed : Fixed synchronization widths
+unfolding synchronization
+synchronization-fixed =
+    bind-fixed (number-fixed 1) λ _. bind-fixed (number-fixed 2) λ _. bind-fixed (number-fixed 1) λ _. bind-fixed (number-fixed 1) λ _.
+    bind-fixed (number-fixed 2) λ _. bind-fixed (number-fixed 2) λ _. bind-fixed (number-fixed 2) λ _.
+    bind-fixed (number-fixed 2) λ _. bind-fixed (number-fixed 2) λ _. bind-fixed (number-fixed 2) λ _.
+    bind-fixed (number-fixed 1) λ _. bind-fixed (number-fixed 1) λ _. bind-fixed (number-fixed 1) λ _. bind-fixed (number-fixed 1) λ _.
+    bind-fixed address-fixed λ _. bind-fixed (bind-fixed (field-fixed 2) λ bytes. give-fixed (getD bytes 0 0)) λ _.
+    bind-fixed (number-fixed 2) λ _. bind-fixed (number-fixed 2) λ _. give-fixed _
 
 pub synchronization-lawful : Lawful synchronization
-synchronization-lawful = synchronization-wide .lawful
+synchronization-lawful = synchronization-fixed .lawful
+
+pub short : (s : List ℕ) → length s < 33 → synchronization s 0 ≡ refused Short
+short s h =
+    let more : List ℕ = replicate 33 0 in
+    rw (take-append-seam s more) at
+    (cut-short synchronization-lawful (s ++ more) (whole (s ++ more) (simp length-append (omega arith))) h)
+
+-- a place that was given is the one behind 33 bytes
+pub taken : (s : List ℕ) {size : ℕ} → answer size ≡ placeOf (synchronization s 0) → (size ≡ 33) × (33 ≤ length s)
+taken s {size} e =
+    dite (decLe 33 (length s))
+    (λ inside. let e′ = rw (whole s inside) at e in ((cc), inside))
+    (λ past. let e′ = rw (short s (omega arith)) at e in let z : _≡_ {A = ℕ} 0 1 = cc in absurd (omega arith))

@@ -5,9 +5,9 @@ use Rattle.wire.specs.Numbers.{littleBytes}
 use Rattle.wire.specs.Addresses.{addressBytes}
 use Rattle.synchronization_parameters.specs.declared.synchronization_parameters_tlv.SynchronizationParametersTLV.{SynchronizationParametersTLV}
 
--- from 0, up to the lengths
-abbrev pub firstBytes : SynchronizationParametersTLV → List ℕ
-firstBytes p =
+-- the reserved byte is 0
+unfoldable pub bytesOf : SynchronizationParametersTLV → List ℕ
+bytesOf p =
     littleBytes 1 (p .«next_channel»)
     ++ littleBytes 2 (p .«tx_counter»)
     ++ littleBytes 1 (p .«master_channel»)
@@ -18,11 +18,7 @@ firstBytes p =
     ++ littleBytes 2 (p .«aw_ext_length»)
     ++ littleBytes 2 (p .«aw_common_length»)
     ++ littleBytes 2 (p .«remaining_aw_length»)
-
--- from 17, the counts and what is behind them; the reserved byte is 0
-abbrev pub lastBytes : SynchronizationParametersTLV → List ℕ
-lastBytes p =
-    littleBytes 1 (p .«min_ext_count»)
+    ++ littleBytes 1 (p .«min_ext_count»)
     ++ littleBytes 1 (p .«max_multicast_ext_count»)
     ++ littleBytes 1 (p .«max_unicast_ext_count»)
     ++ littleBytes 1 (p .«max_af_ext_count»)
@@ -31,6 +27,3 @@ lastBytes p =
     ++ (0 ∷ [])
     ++ littleBytes 2 (p .«aw_seq_number»)
     ++ littleBytes 2 (p .«ap_beacon_alignment_delta»)
-
-unfoldable pub bytesOf : SynchronizationParametersTLV → List ℕ
-bytesOf p = firstBytes p ++ lastBytes p

@@ -1,5 +1,4 @@
 // The timing that a peer announces: the fixed part of its synchronization value.
-mod stages;
 mod synchronization_parameters_tlv;
 
 pub use synchronization_parameters_tlv::ReadSynchronization;

@@ -1,29 +1,17 @@
 ghost use mathlib.Core.Path.{_≡_};
 ghost use Prim.Native.Nat.{_+_, _≤_};
-ghost use lib.ListN.{length};
+ghost use lib.ListN.{length, take, drop};
 ghost use Rattle.wire.specs.Reading as Reading;
-ghost use Rattle.wire.specs.Answer.{answer};
-ghost use Rattle.wire.specs.Said.{saidSize};
+ghost use Rattle.wire.specs.Answer.{answer, placeOf};
+ghost use Rattle.wire.specs.Numbers.{little};
+ghost use Rattle.wire.specs.Said.{saidPlace, saidSize};
 ghost use Rattle.wire.specs.Writing.{Put, Wrote};
-ghost use Rattle.synchronization_parameters.specs.SynchronizationReader.{together, synchronization};
-ghost use Rattle.synchronization_parameters.specs.SynchronizationBytes.{firstBytes, lastBytes, bytesOf};
+ghost use Rattle.synchronization_parameters.specs.SynchronizationReader.{synchronization};
+ghost use Rattle.synchronization_parameters.specs.SynchronizationBytes.{bytesOf};
 ghost use Rattle.synchronization_parameters.specs.Said.{synchronizationRead};
-use crate::stages::Channels;
-use crate::stages::Counts;
-use crate::stages::Lengths;
-use crate::stages::Master;
-use crate::stages::Periods;
-use crate::stages::ReadChannels;
-use crate::stages::ReadCounts;
-use crate::stages::ReadLengths;
-use crate::stages::ReadMaster;
-use crate::stages::ReadPeriods;
-use crate::stages::channels_at;
-use crate::stages::counts_at;
-use crate::stages::lengths_at;
-use crate::stages::master_at;
-use crate::stages::periods_at;
 use wire::MACAddress;
+use wire::Place;
+use wire::ReadU16;
 use wire::Refusal;
 use wire::Size;
 
@@ -55,6 +43,9 @@ pub struct ReadSynchronization {
     pub parameters: SynchronizationParametersTLV,
 }
 
+// How many bytes each field takes. The reserved byte belongs to the mode before it.
+const WIDTHS: [usize; 18] = [1, 2, 1, 1, 2, 2, 2, 2, 2, 2, 1, 1, 1, 1, 6, 2, 2, 2];
+
 impl SynchronizationParametersTLV {
     pub const TLV_TYPE: u8 = 0x04;
 
@@ -65,24 +56,12 @@ impl SynchronizationParametersTLV {
     pub fn read(s: &[u8]) -> ReadSynchronization
         ensures { λ r. ⌜ r ≡ synchronizationRead (synchronization (now (s .entry)) 0) ⌝ }
     {
-        match channels_at(s, 0) {
-            ReadChannels::Read(channels, at) => match periods_at(s, at) {
-                ReadPeriods::Read(periods, at) => match lengths_at(s, at) {
-                    ReadLengths::Read(lengths, at) => match counts_at(s, at) {
-                        ReadCounts::Read(counts, at) => match master_at(s, at) {
-                            ReadMaster::Read(master, at) => ReadSynchronization {
-                                answer: Size::Bytes(at),
-                                parameters: together(channels, periods, lengths, counts, master),
-                            },
-                            ReadMaster::Refused(why) => refused(why),
-                        },
-                        ReadCounts::Refused(why) => refused(why),
-                    },
-                    ReadLengths::Refused(why) => refused(why),
-                },
-                ReadPeriods::Refused(why) => refused(why),
+        match behind_fields(s) {
+            Place::At(size) => ReadSynchronization {
+                answer: Size::Bytes(size),
+                parameters: fields(s),
             },
-            ReadChannels::Refused(why) => refused(why),
+            Place::Refused(why) => refused(why),
         }
     }
 
@@ -94,8 +73,7 @@ impl SynchronizationParametersTLV {
             Size::Bytes(SynchronizationParametersTLV::MAX_SIZE),
         ) {
             Size::Bytes(n) => {
-                let at = put_first(self, buf, 0);
-                put_last(self, buf, at);
+                put_fields(self, buf);
                 Size::Bytes(n)
             }
             Size::Refused(why) => Size::Refused(why),
@@ -131,67 +109,84 @@ fn refused(why: Refusal) -> ReadSynchronization
     }
 }
 
-fn together(
-    channels: Channels,
-    periods: Periods,
-    lengths: Lengths,
-    counts: Counts,
-    master: Master,
-) -> SynchronizationParametersTLV
-    ensures { λ r. ⌜ r ≡ together channels periods lengths counts master ⌝ }
+// The place behind the last field. The first field that does not fit is the one that is refused.
+fn behind_fields(s: &[u8]) -> Place
+    ensures { λ r. ⌜ saidPlace r ≡ placeOf (synchronization (now (s .entry)) 0) ⌝ }
 {
-    let master_address = master.master_address;
+    let mut at = 0;
+    let mut i = 0;
+    while i < 18 {
+        let found = wire::field_at(s, at, WIDTHS[i]);
+        let Place::At(next) = found else {
+            return found;
+        };
+        at = next;
+        i += 1;
+    }
+    Place::At(at)
+}
+
+// The fields at their places in a value that has them all.
+fn fields(s: &[u8]) -> SynchronizationParametersTLV
+    requires { ⌜ 33 ≤ length (now s) ⌝ }
+    ensures { λ r. ⌜ synchronization (now (s .entry)) 0 ≡ Reading.read r 33 ⌝ }
+{
     SynchronizationParametersTLV {
-        next_channel: channels.next_channel,
-        tx_counter: channels.tx_counter,
-        master_channel: channels.master_channel,
-        guard_time: channels.guard_time,
-        aw_period: periods.aw_period,
-        af_period: periods.af_period,
-        awdl_flags: periods.awdl_flags,
-        aw_ext_length: lengths.aw_ext_length,
-        aw_common_length: lengths.aw_common_length,
-        remaining_aw_length: lengths.remaining_aw_length,
-        min_ext_count: counts.min_ext_count,
-        max_multicast_ext_count: counts.max_multicast_ext_count,
-        max_unicast_ext_count: counts.max_unicast_ext_count,
-        max_af_ext_count: counts.max_af_ext_count,
-        master_address,
-        presence_mode: master.presence_mode,
-        aw_seq_number: master.aw_seq_number,
-        ap_beacon_alignment_delta: master.ap_beacon_alignment_delta,
+        next_channel: s[0],
+        tx_counter: word(s, 1),
+        master_channel: s[3],
+        guard_time: s[4],
+        aw_period: word(s, 5),
+        af_period: word(s, 7),
+        awdl_flags: word(s, 9),
+        aw_ext_length: word(s, 11),
+        aw_common_length: word(s, 13),
+        remaining_aw_length: word(s, 15),
+        min_ext_count: s[17],
+        max_multicast_ext_count: s[18],
+        max_unicast_ext_count: s[19],
+        max_af_ext_count: s[20],
+        master_address: MACAddress(s[21], s[22], s[23], s[24], s[25], s[26]),
+        presence_mode: s[27],
+        aw_seq_number: word(s, 29),
+        ap_beacon_alignment_delta: word(s, 31),
     }
 }
 
-// The two halves of the writer. The room was asked for before the first of them.
-fn put_first(p: SynchronizationParametersTLV, buf: &mut [u8], at: usize) -> usize
-    requires { ⌜ at + 17 ≤ length (now buf) ⌝ }
-    ensures { λ r. ⌜ Put (now (buf .entry)) at (firstBytes p) r (now (buf .exit)) ⌝ }
+// The number at a place of a value that has its two bytes.
+fn word(s: &[u8], at: usize) -> u16
+    requires { ⌜ at + 2 ≤ length (now s) ⌝ }
+    ensures { λ r. ⌜ r ≡ little (take 2 (drop at (now (s .entry)))) ⌝ }
 {
-    let at = wire::put_u8(buf, at, p.next_channel);
-    let at = wire::put_u16(buf, at, p.tx_counter);
-    let at = wire::put_u8(buf, at, p.master_channel);
-    let at = wire::put_u8(buf, at, p.guard_time);
-    let at = wire::put_u16(buf, at, p.aw_period);
-    let at = wire::put_u16(buf, at, p.af_period);
-    let at = wire::put_u16(buf, at, p.awdl_flags);
-    let at = wire::put_u16(buf, at, p.aw_ext_length);
-    let at = wire::put_u16(buf, at, p.aw_common_length);
-    wire::put_u16(buf, at, p.remaining_aw_length)
+    match wire::u16_at(s, at) {
+        ReadU16::Read(value, _) => value,
+        ReadU16::Refused(_) => 0,
+    }
 }
 
-fn put_last(p: SynchronizationParametersTLV, buf: &mut [u8], at: usize) -> usize
-    requires { ⌜ at + 16 ≤ length (now buf) ⌝ }
-    ensures { λ r. ⌜ Put (now (buf .entry)) at (lastBytes p) r (now (buf .exit)) ⌝ }
+// Puts the fields at their places into a buffer that has room for them, and gives the place behind.
+fn put_fields(p: SynchronizationParametersTLV, buf: &mut [u8]) -> usize
+    requires { ⌜ 33 ≤ length (now buf) ⌝ }
+    ensures { λ r. ⌜ Put (now (buf .entry)) 0 (bytesOf p) r (now (buf .exit)) ⌝ }
 {
     let master_address = p.master_address;
-    let at = wire::put_u8(buf, at, p.min_ext_count);
-    let at = wire::put_u8(buf, at, p.max_multicast_ext_count);
-    let at = wire::put_u8(buf, at, p.max_unicast_ext_count);
-    let at = wire::put_u8(buf, at, p.max_af_ext_count);
-    let at = wire::put_address(buf, at, master_address);
-    let at = wire::put_u8(buf, at, p.presence_mode);
-    let at = wire::put_u8(buf, at, 0);
-    let at = wire::put_u16(buf, at, p.aw_seq_number);
-    wire::put_u16(buf, at, p.ap_beacon_alignment_delta)
+    wire::put_u8(buf, 0, p.next_channel);
+    wire::put_u16(buf, 1, p.tx_counter);
+    wire::put_u8(buf, 3, p.master_channel);
+    wire::put_u8(buf, 4, p.guard_time);
+    wire::put_u16(buf, 5, p.aw_period);
+    wire::put_u16(buf, 7, p.af_period);
+    wire::put_u16(buf, 9, p.awdl_flags);
+    wire::put_u16(buf, 11, p.aw_ext_length);
+    wire::put_u16(buf, 13, p.aw_common_length);
+    wire::put_u16(buf, 15, p.remaining_aw_length);
+    wire::put_u8(buf, 17, p.min_ext_count);
+    wire::put_u8(buf, 18, p.max_multicast_ext_count);
+    wire::put_u8(buf, 19, p.max_unicast_ext_count);
+    wire::put_u8(buf, 20, p.max_af_ext_count);
+    wire::put_address(buf, 21, master_address);
+    wire::put_u8(buf, 27, p.presence_mode);
+    wire::put_u8(buf, 28, 0);
+    wire::put_u16(buf, 29, p.aw_seq_number);
+    wire::put_u16(buf, 31, p.ap_beacon_alignment_delta)
 }

@@ -1,8 +1,9 @@
 -- Where the enum of an answer stands beside the record, the two together say what the answer was made of.
 -- Assumes nothing.
-use mathlib.Core.Path.{_≡_, refl, sym, ap, _∙_}
+use mathlib.Core.Path.{_≡_, refl}
 use Rattle.wire.specs.declared.write.Size.{Size}
 use Rattle.wire.specs.Reading.{Reading, read, refused}
+use Rattle.wire.proofs.Once.{beside}
 use Rattle.synchronization_parameters.specs.declared.synchronization_parameters_tlv.SynchronizationParametersTLV.{SynchronizationParametersTLV}
 use Rattle.synchronization_parameters.specs.declared.synchronization_parameters_tlv.ReadSynchronization.{ReadSynchronization}
 use Rattle.synchronization_parameters.specs.Said.{synchronizationRead}
@@ -11,11 +12,6 @@ use Rattle.tlvs.specs.declared.search.Found.{Found}
 use Rattle.tlvs.specs.declared.search.FoundSynchronization.{FoundSynchronization}
 use Rattle.tlvs.specs.Search.{Search, found, nothing}
 use Rattle.tlvs.specs.Said.{synchronizationFound}
-
--- a making that can be undone, told of an answer by its two parts
-beside : {A B C D : Type 0} (make : A → B) (part : B → C) (value : B → D) (undo : C → D → A) → ((a : A) → undo (part (make a)) (value (make a)) ≡ a)
-    → (a : A) {b : B} {c : C} → b ≡ make a → part b ≡ c → a ≡ undo c (value b)
-beside make part value undo back a p q = sym (rw (← q) (ap (λ b. undo (part b) (value b)) p ∙ back a))
 
 pub read-beside : (m : Reading SynchronizationParametersTLV) {r : ReadSynchronization} {answer : Size} → r ≡ synchronizationRead m → r .answer ≡ answer
     → m ≡ sized answer (r .parameters)

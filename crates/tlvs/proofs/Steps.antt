@@ -14,7 +14,7 @@ use Rattle.tlvs.specs.declared.item.Item.{Item}
 use Rattle.tlvs.specs.declared.item.Step.{Step}
 use Rattle.tlvs.specs.Items.{item, found, stepAt}
 use Rattle.wire.proofs.Lawful.{steps}
-use Rattle.tlvs.proofs.Parts.{field-inside, made-inside}
+use Rattle.wire.proofs.Places.{field-inside, made-inside}
 
 -- an item at a place: it keeps the place, the next place is behind its value, and that one is within the tail
 pub record Stands (tail : List ℕ) (at : ℕ) (it : Item) (next : ℕ) : Type 0 where

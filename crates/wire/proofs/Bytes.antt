@@ -3,11 +3,11 @@
 use Prim.Native.Nat.{ℕ, zero, suc, _+_, _*_, _-_, _≤_, _<_}
 use native.Mathlib.Nat.{add-suc, add-zero}
 use native.Mathlib.Omega.{arith}
-use mathlib.Core.Path.{_≡_, refl, sym, ap, _∙_}
-use mathlib.Core.Bool.{Bool, true, false, cond}
-use mathlib.Core.List.{List, [], _∷_}
+use mathlib.Core.Path.{_≡_, refl, ap}
+use mathlib.Core.Bool.{Bool, true, false}
+use mathlib.Core.List.{List, [], _∷_, _++_}
 use lib.Dec.{leb}
-use lib.ListN.{length, getD, take, drop, length-drop}
+use lib.ListN.{length, getD, take, drop, length-drop, take-append-drop}
 use lib.Seq.{drop-cons, length-take-le}
 use borrow.Author.Tests.{le-leb, lt-leb, leb-true}
 use Rattle.wire.specs.declared.refusal.Refusal.{Refusal}
@@ -28,6 +28,10 @@ from-take s at k (suc n) h =
     let inside : at + k < length s = omega arith in
     let behind : at + suc k + n ≤ length s = omega arith in
     rw (drop-cons s (at + k) 0 inside, ← add-suc at k, from-take s at (suc k) n behind)
+
+-- a list of n bytes or more is these bytes, each by its place, and the rest
+pub opened : (n : ℕ) (s : List ℕ) → n ≤ length s → from s 0 0 n ++ drop n s ≡ s
+opened n s h = rw (← from-take s 0 0 n (omega arith)) (take-append-drop n s)
 
 -- the bytes of a field that stands whole; the first byte is at the place itself, with no sum
 pub field-whole : (n : ℕ) (s : List ℕ) (at : ℕ) → suc n ≤ length s - at
@@ -90,3 +94,8 @@ within-room room (answer m) {n} e = go (leb m room) refl
         (ap answer same, rw same at (leb-true m room q))
     go false q = absurd (let e′ = rw q at e in let z : _≡_ {A = ℕ} 0 1 = cc in omega arith)
 within-room room (refusal why) e = absurd (let z : _≡_ {A = ℕ} 0 1 = cc in omega arith)
+
+-- a size that is known beforehand
+pub known-room : (room size : ℕ) {n : ℕ} → answer n ≡ within room (answer size) → (size ≡ n) × (n ≤ room)
+known-room room size {n} e =
+    let found : (answer size ≡ answer n) × (n ≤ room) = within-room room (answer size) e in ((cc), found .1)

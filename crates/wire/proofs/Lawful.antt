@@ -52,7 +52,7 @@ refuse-lawful why =
     }
 
 -- a field that was read stood within, and is what stands before its end, less what stands before it
-field-read : (n : ℕ) (s : List ℕ) (at : ℕ) {a : List ℕ} {next : ℕ} → field n s at ≡ read a next
+pub field-read : (n : ℕ) (s : List ℕ) (at : ℕ) {a : List ℕ} {next : ℕ} → field n s at ≡ read a next
     → (at + n ≡ next) × (at + n ≤ length s) × (drop at (take (at + n) s) ≡ a)
 field-read n s at {a} {next} e = go (leb (at + n) (length s)) refl e
   where

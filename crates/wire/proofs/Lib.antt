@@ -2,8 +2,10 @@ pub mod Lawful
 pub mod ReadsBack
 pub mod Gives
 pub mod Again
+pub mod Fixed
 pub mod Once
 pub mod Bytes
+pub mod Places
 pub mod Stores
 pub mod Words
 pub mod Tests

@@ -1,17 +1,17 @@
 -- What was written is read back, from any place and with anything behind, proved once for each way of putting readers together.
 -- Assumes nothing.
-use Prim.Native.Nat.{ℕ, zero, suc, _+_, _*_, _/_, _%_, _^_, _≤_, _<_}
+use Prim.Native.Nat.{ℕ, zero, suc, _+_, _/_, _^_, _≤_, _<_}
 use native.Mathlib.Nat.{add-zero, add-assoc, pow-suc, div-lt-iff-lt-mul}
 use native.Mathlib.Omega.{arith}
-use mathlib.Core.Path.{_≡_, refl, sym, ap, _∙_}
+use mathlib.Core.Path.{_≡_, refl, ap}
 use mathlib.Core.Bool.{Bool, true, false, cond}
 use mathlib.Core.List.{List, [], _∷_, _++_, append-assoc}
 use lib.Dec.{lit<}
-use lib.ListN.{length, take, drop, length-append}
+use lib.ListN.{length, length-append}
 use lib.Seq.{drop-append-seam, take-append-seam}
 use borrow.Author.Tests.{le-leb}
 use Rattle.wire.specs.declared.read.MACAddress.{MACAddress}
-use Rattle.wire.specs.Reading.{Reading, Reader, read, give, field, _>>=_, when}
+use Rattle.wire.specs.Reading.{Reader, read, give, field, _>>=_, when}
 use Rattle.wire.specs.Answer.{Answer, answer, asked}
 use Rattle.wire.specs.Numbers.{little, littleBytes, number}
 use Rattle.wire.specs.Addresses.{address, addressOf, addressBytes}
@@ -85,3 +85,22 @@ number-back width v h =
 
 pub address-back : (a : MACAddress) → Back address (addressBytes a) a
 address-back a = made-back addressOf (field-back 6 (addressBytes a) refl)
+
+-- numbers, each with the width of its field, that are below what their bytes can write
+pub data Fits : List (ℕ × ℕ) → Type 0 where
+  none : Fits []
+  one : {width v : ℕ} {others : List (ℕ × ℕ)} → v < 256 ^ width → Fits others → Fits ((width, v) ∷ others)
+
+-- a number that fits, in front of what is read back where the others fit
+pub number-on : {B : Type 0} (width : ℕ) (f : ℕ → Reader B) {v : ℕ} {others : List (ℕ × ℕ)} {bytes : List ℕ} {b : B}
+    → (Fits others → Back (f v) bytes b) → Fits ((width, v) ∷ others) → Back (number width >>= f) (littleBytes width v ++ bytes) b
+number-on width f goes (one h rest) = bind-back f (number-back width _ h) (goes rest)
+
+-- and the last of them, with which the value is made
+pub number-last : {B : Type 0} (width : ℕ) (g : ℕ → B) {v : ℕ} → Fits ((width, v) ∷ []) → Back (number width >>= λ x. give (g x)) (littleBytes width v) (g v)
+number-last width g (one h none) = made-back g (number-back width _ h)
+
+-- an address always fits
+pub address-on : {B : Type 0} (f : MACAddress → Reader B) (a : MACAddress) {others : List (ℕ × ℕ)} {bytes : List ℕ} {b : B}
+    → (Fits others → Back (f a) bytes b) → Fits others → Back (address >>= f) (addressBytes a ++ bytes) b
+address-on f a goes fit = bind-back f (address-back a) (goes fit)

@@ -1,6 +1,6 @@
 -- What code that stores byte after byte leaves is what `putting` says; putting one run behind another is putting both at once.
 -- Assumes nothing.
-use Prim.Native.Nat.{ℕ, zero, suc, _+_, _-_, _≤_, _<_}
+use Prim.Native.Nat.{ℕ, suc, _+_, _-_, _≤_, _<_}
 use native.Mathlib.Nat.{add-suc, add-zero, zero-add, add-assoc}
 use native.Mathlib.Numerals.{add-one}
 use native.Mathlib.Omega.{arith}
@@ -8,12 +8,12 @@ use mathlib.Core.Path.{_≡_, refl, sym, ap, _∙_}
 use mathlib.Core.Bool.{Bool, true, false}
 use mathlib.Core.List.{List, [], _∷_, _++_, append-assoc, append-nil}
 use lib.Dec.{leb}
-use lib.ListN.{length, take, drop, set, length-set, length-append, length-take, length-drop, take-append-drop}
+use lib.ListN.{length, take, drop, set, length-append, length-take, length-drop, take-append-drop}
 use lib.Seq.{sets, sets-eq, paste, paste-zero, take-length, take-at, drop-append-add, drop-drop}
-use borrow.Author.Tests.{le-leb, lt-leb, leb-false}
+use borrow.Author.Tests.{le-leb, lt-leb, leb-true, leb-false}
 use Rattle.wire.specs.declared.refusal.Refusal.{Refusal}
 use Rattle.wire.specs.Answer.{Answer, answer, refusal}
-use Rattle.wire.specs.Writing.{fits, putting, behind, Put, within, lengthOf, Wrote}
+use Rattle.wire.specs.Writing.{fits, behind, Put, within, lengthOf, Wrote}
 
 -- bytes stored one after the other, the first of them k behind a place
 abbrev pub over : List ℕ → ℕ → ℕ → List ℕ → List ℕ
@@ -62,6 +62,14 @@ put-fits {s} {at} {bytes} p h =
       laid,
       rw laid (simp (length-append, length-take, length-drop) (omega arith)),
     )
+
+-- a step of a writer keeps the buffer's length, whether its bytes fit or not
+pub put-length : {s : List ℕ} {at : ℕ} {bytes : List ℕ} {next : ℕ} {t : List ℕ} → Put s at bytes next t → length t ≡ length s
+put-length {s} {at} {bytes} {next} {t} p = go (fits s at bytes) refl
+  where
+    go : (b : Bool) → fits s at bytes ≡ b → length t ≡ length s
+    go true e = put-fits p (leb-true (at + length bytes) (length s) e) .2
+    go false e = ap length (rw e at (p .buffer))
 
 -- no byte, where a field is absent
 pub put-empty : (s : List ℕ) (at : ℕ) → at ≤ length s → Put s at [] at s
@@ -122,3 +130,15 @@ room-second {s} {at} {xs} ys p h =
 pub put-both : {s : List ℕ} {at : ℕ} {xs : List ℕ} {mid : ℕ} {t : List ℕ} {ys : List ℕ} {next : ℕ} {u : List ℕ}
     → Put s at xs mid t → Put t mid ys next u → at + length (xs ++ ys) ≤ length s → Put s at (xs ++ ys) next u
 put-both {xs = xs} {ys = ys} p q h = let both = length-append xs ys in put-then p q (omega arith)
+
+-- a record's bytes, put run after run from the start on, each at its place; that there is room is asked once, of all of them
+abbrev pub Laid : List ℕ → List ℕ → ℕ → List ℕ → Type 0
+Laid s bytes next t = length bytes ≤ length s → Put s 0 bytes next t
+
+infixl 20 _also_
+pub _also_ : {s xs : List ℕ} {mid : ℕ} {t ys : List ℕ} {next : ℕ} {u : List ℕ}
+    → Laid s xs mid t → Put t (length xs) ys next u → Laid s (xs ++ ys) next u
+_also_ {s} {xs} {mid} {t} {ys} {next} {u} laid q room =
+    let both = length-append xs ys in
+    let p = laid (omega arith) in
+    put-then p (rw (← put-all p (omega arith) .0) at q) (omega arith)

@@ -1,9 +1,9 @@
 -- `fields_at` meets its contract: the subtype is the first byte of a field that stands within, and each stamp was read or was short.
 -- Assumes nothing.
-use Rattle.action_frame.proofs.Parts.{begins}
 use Rattle.action_frame.proofs.fields_at.Statement.{statement}
 use Rattle.action_frame.proofs.fields_at.Tie as tie
 use Rattle.wire.proofs.Bytes.{Placed, placed, unplaced}
+use Rattle.wire.proofs.Places.{begins}
 use Rattle.wire.specs.Reading.{field}
 use Rattle.wire.specs.Said.{saidPlace, saidU32}
 use borrow.Author.Needs.{needs}

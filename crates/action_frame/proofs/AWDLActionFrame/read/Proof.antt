@@ -2,9 +2,9 @@
 -- Assumes nothing.
 use Rattle.action_frame.proofs.AWDLActionFrame.read.Statement.{statement}
 use Rattle.action_frame.proofs.AWDLActionFrame.read.Tie as tie
-use Rattle.action_frame.proofs.Parts.{passed}
 use Rattle.action_frame.specs.Frames.{fixedByte}
 use Rattle.wire.proofs.Bytes.{unplaced}
+use Rattle.wire.proofs.Places.{passed}
 use Rattle.wire.specs.Said.{saidPlace}
 use Rattle.wire.specs.declared.refusal.Refusal.the-variants.{NotAction, NotVersion}
 use borrow.Author.Needs.{needs}

@@ -2,7 +2,7 @@
 -- Assumes nothing.
 use Rattle.action_frame.proofs.AWDLActionFrame.tail.Statement.{statement}
 use Rattle.action_frame.proofs.AWDLActionFrame.tail.Tie as tie
-use Rattle.action_frame.proofs.Parts.{rest}
+use Rattle.wire.proofs.Places.{rest}
 use borrow.Author.Needs.{needs}
 use lib.ListN.{length, drop-of-length-le}
 use mathlib.Core.Path.{sym, _∙_}

@@ -3,8 +3,9 @@
 use Prim.Native.Nat.{_+_, _≤_}
 use Rattle.action_frame.proofs.AWDLActionFrame.write.Statement.{statement}
 use Rattle.action_frame.proofs.AWDLActionFrame.write.Tie as tie
-use Rattle.action_frame.proofs.Parts.{fits-room, length-header, length-bytes}
+use Rattle.action_frame.proofs.Sizes.{length-header, length-bytes}
 use Rattle.action_frame.specs.Frames.{bytesOf}
+use Rattle.wire.proofs.Bytes.{known-room}
 use Rattle.wire.proofs.Stores.{put-then, wrote-all, wrote-none}
 use Rattle.wire.specs.Answer.{answer}
 use Rattle.wire.specs.Said.{saidSize}
@@ -19,7 +20,7 @@ settled : (c : tie.After-known-told) →
     let n = c .before .n .given .0 .0 in
     (12 + length (a .tail .now) ≡ n) × (n ≤ length (a .buf .now))
 settled c =
-    fits-room _ _ (ap saidSize (sym (c .before .n .given .1)) ∙ c .before .before .before .within .ensures)
+    known-room _ _ (ap saidSize (sym (c .before .n .given .1)) ∙ c .before .before .before .within .ensures)
 
 add-size : tie.Need-add-size
 add-size c = search needs

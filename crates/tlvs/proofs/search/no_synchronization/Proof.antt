@@ -1,6 +1,6 @@
 -- `no_synchronization` meets its contract: a value of no bytes is short at its first field, and a refusal's record is the zero one.
 -- Assumes nothing.
-use Rattle.synchronization_parameters.specs.SynchronizationReader.{synchronization, channels}
+use Rattle.synchronization_parameters.specs.SynchronizationReader.{synchronization}
 use Rattle.tlvs.proofs.search.no_synchronization.Statement.{statement}
 use Rattle.tlvs.proofs.search.no_synchronization.Tie as tie
 use borrow.Author.Needs.{needs}
@@ -12,7 +12,7 @@ read-requires : tie.Need-read-requires
 read-requires c κs = search needs
 
 returns : tie.Need-returns
-unfolding synchronization channels
+unfolding synchronization
 returns c = rw (c .before .read .ensures)
 
 pub no-synchronization-spec : {M : Type 1} → statement M

@@ -1,9 +1,9 @@
 -- `value` meets its contract: the two fields that were placed are the item's first three bytes and its value; where one is short, so is the value's.
 -- Assumes nothing.
-use Rattle.tlvs.proofs.Parts.{field-past}
 use Rattle.tlvs.proofs.walk.value.Statement.{statement}
 use Rattle.tlvs.proofs.walk.value.Tie as tie
 use Rattle.wire.proofs.Bytes.{Placed, placed, unplaced}
+use Rattle.wire.proofs.Places.{field-past}
 use Rattle.wire.specs.Reading.{field}
 use Rattle.wire.specs.Said.{saidPlace}
 use borrow.Author.Needs.{needs}

@@ -1,11 +1,11 @@
--- `SynchronizationParametersTLV::write` meets its contract: the room is settled first, and then the two halves are put, one behind the other.
+-- `SynchronizationParametersTLV::write` meets its contract: the room is settled first, and then the fields are put.
 -- Assumes nothing.
 use Prim.Native.Nat.{_≤_}
-use Rattle.synchronization_parameters.proofs.Room.{known-room}
 use Rattle.synchronization_parameters.proofs.synchronization_parameters_tlv.SynchronizationParametersTLV.write.Statement.{statement}
 use Rattle.synchronization_parameters.proofs.synchronization_parameters_tlv.SynchronizationParametersTLV.write.Tie as tie
 use Rattle.synchronization_parameters.specs.SynchronizationBytes.{bytesOf}
-use Rattle.wire.proofs.Stores.{put-then, put-fits, wrote-all, wrote-none}
+use Rattle.wire.proofs.Bytes.{known-room}
+use Rattle.wire.proofs.Stores.{wrote-all, wrote-none}
 use Rattle.wire.specs.Answer.{answer}
 use Rattle.wire.specs.Said.{saidSize}
 use borrow.Author.Needs.{needs}
@@ -25,11 +25,8 @@ within-requires c κs = search needs
 enum-known-n : tie.Need-enum-known-n
 enum-known-n c = search needs
 
-put-first-requires : tie.Need-put-first-requires
-put-first-requires c κs = omega (arith, settled (c .before))
-
-put-last-requires : tie.Need-put-last-requires
-put-last-requires c κs = let room = settled (c .before .before .before .before .before) in omega (arith, put-fits (c .before .before .before .put-first .ensures) (omega arith))
+put-fields-requires : tie.Need-put-fields-requires
+put-fields-requires c κs = omega (arith, settled (c .before))
 
 enum-known-why : tie.Need-enum-known-why
 enum-known-why c = search needs
@@ -40,8 +37,8 @@ same-length c = search needs
 returns : tie.Need-returns
 unfolding bytesOf
 returns c =
-    let room = settled (c .before .before .before .before .before .before .before .before) in
-    wrote-all (put-then (c .before .before .before .before .before .before .put-first .ensures) (c .before .before .put-last .ensures) (omega arith)) (room .0) (room .1)
+    let room = settled (c .before .before .before .before) in
+    wrote-all (c .before .before .put-fields .ensures) (room .0) (room .1)
 
 returns-2 : tie.Need-returns-2
 unfolding bytesOf
@@ -55,8 +52,7 @@ write-spec =
     (tie.spec
     within-requires
     enum-known-n
-    put-first-requires
-    put-last-requires
+    put-fields-requires
     enum-known-why
     same-length
     returns

@@ -1,0 +1,11 @@
+-- What of a value comes back when its record is written again: its 33 bytes as they stand, but the reserved byte is 0.
+use Prim.Native.Nat.{ℕ}
+use mathlib.Core.List.{List, [], _∷_, _++_}
+use Rattle.wire.specs.Reading.{Reader, field, give, _>>=_}
+
+abbrev pub rewritten : Reader (List ℕ)
+rewritten = do
+  before ← field 28
+  reserved ← field 1
+  behind ← field 4
+  give (before ++ (0 ∷ []) ++ behind)

@@ -1,0 +1,55 @@
+-- What a place that was given tells of the field in front of it, and what a refusal tells of the fields behind.
+-- Assumes nothing.
+use Prim.Native.Nat.{ℕ, suc, _+_, _-_, _≤_, _<_}
+use native.Mathlib.Omega.{arith}
+use mathlib.Core.Path.{_≡_, refl, sym, ap}
+use mathlib.Core.Bool.{Bool, true, false, cond}
+use mathlib.Core.List.{List, _∷_}
+use lib.Dec.{leb}
+use lib.ListN.{length, getD, take, drop, length-drop}
+use lib.Seq.{take-all}
+use borrow.Author.Tests.{leb-false, lt-leb}
+use Rattle.wire.specs.declared.refusal.Refusal.{Refusal}
+use Rattle.wire.specs.declared.refusal.Refusal.the-variants.{Short}
+use Rattle.wire.specs.Reading.{Reading, read, refused, field, give, _>>=_}
+use Rattle.wire.specs.Answer.{answer, placeOf}
+use Rattle.wire.proofs.Lawful.{never, steps, field-read}
+use Rattle.wire.proofs.Bytes.{Placed, from, field-whole}
+
+-- a reading that has no value but its place is that place
+pub passed : (r : Reading (Unit {0})) {next : ℕ} → answer next ≡ placeOf r → r ≡ read tt next
+passed (read a place) {next} e = let same : next ≡ place = cc in ap (read tt) (sym same)
+passed (refused why) e = absurd (let z : _≡_ {A = ℕ} 0 1 = cc in omega arith)
+
+-- a field whose place was given begins with the byte at its start
+pub begins : {n : ℕ} {s : List ℕ} {at next : ℕ} → Placed (suc n) s at next → field (suc n) s at ≡ read (getD s at 0 ∷ from s at 1 n) next
+begins {n} {s} {at} p = rw (p .place) (field-whole n s at (omega arith))
+
+-- a field that was read stood within
+pub field-inside : (n : ℕ) (s : List ℕ) (at : ℕ) {a : List ℕ} {next : ℕ} → field n s at ≡ read a next
+    → (next ≡ at + n) × (at + n ≤ length s)
+field-inside n s at e = let f = field-read n s at e in (sym (f .0), f .1)
+
+-- and so for what was made of a field
+pub made-inside : {A : Type 0} (n : ℕ) (s : List ℕ) (at : ℕ) (g : List ℕ → A) {a : A} {next : ℕ}
+    → (field n >>= λ x. give (g x)) s at ≡ read a next → (next ≡ at + n) × (at + n ≤ length s)
+made-inside n s at g {a} {next} e =
+    let p = steps (field n s at) (λ x next. give (g x) s next) e in
+    let same : p .mid ≡ next = let e′ = p .goes in cc in
+    let f = field-inside n s at (p .begins) in
+    omega arith
+
+-- behind a field that does not fit, no other one does
+pub field-past : (n m : ℕ) (s : List ℕ) (at : ℕ) {why : Refusal} → field n s at ≡ refused why → field m s (at + n) ≡ refused Short
+field-past n m s at {why} e = go (leb (at + n) (length s)) refl e
+  where
+    go : (b : Bool) → leb (at + n) (length s) ≡ b → cond b (read (take n (drop at s)) (at + n)) (refused Short) ≡ refused why
+        → field m s (at + n) ≡ refused Short
+    go true q e = absurd (never (sym e))
+    go false q e =
+        let past : length s < at + n = leb-false (at + n) (length s) q in
+        rw (lt-leb (at + n + m) (length s) (omega arith))
+
+-- the part from a place to the end
+pub rest : (s : List ℕ) (at : ℕ) → take (length s - at) (drop at s) ≡ drop at s
+rest s at = take-all (length s - at) (drop at s) (simp length-drop (omega arith))
