@@ -1,13 +1,13 @@
 -- How the tests and the keeping of flags go over a list from the front: what is left of the list decides, or is still to be kept.
 -- Assumes nothing.
 use Prim.Native.Nat.{ℕ, zero, suc, _+_, _-_, _*_, _≤_, _<_}
-use native.Mathlib.Nat.{add-suc, add-zero, le-refl, sub-zero, zero-sub, suc-sub-suc}
+use native.Mathlib.Nat.{add-zero, le-refl, sub-zero, zero-sub, suc-sub-suc}
 use native.Mathlib.Numerals.{add-one, add-two}
 use native.Mathlib.Omega.{arith}
 use mathlib.Core.Path.{_≡_, refl, sym, ap, _∙_}
 use mathlib.Core.Bool.{Bool, true, false, _&&_}
 use mathlib.Core.List.{List, [], _∷_, _++_, append-assoc, append-nil}
-use lib.Dec.{eqb, leb}
+use lib.Dec.{eqb}
 use lib.ListN.{length, getD, take, drop, set, replicate, length-set}
 use lib.Seq.{drop-cons, take-add, take-set-le, drop-set-lt, drop-set-add, take-suc-set, length-take-le}
 use Rattle.wire.specs.Answer.{Answer, answer, refusal}

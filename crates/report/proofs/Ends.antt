@@ -4,10 +4,9 @@ use Prim.Native.Nat.{ℕ, _+_, _*_, _-_, _≤_, _<_}
 use native.Mathlib.Omega.{arith}
 use mathlib.Core.Path.{_≡_, refl, sym, ap, _∙_}
 use mathlib.Core.Bool.{Bool, true, false, cond}
-use mathlib.Core.List.{List, _++_}
+use mathlib.Core.List.{List}
 use lib.Dec.{eqb, leb}
 use lib.ListN.{length, drop, length-append}
-use borrow.Author.Tests.{leb-true}
 use Rattle.wire.specs.Reading.{Reading, read, refused}
 use Rattle.tlvs.specs.declared.item.Item.{Item}
 use Rattle.tlvs.specs.declared.item.Step.{Step}
@@ -17,7 +16,7 @@ use Rattle.action_frame.specs.declared.AWDLActionFrame.{AWDLActionFrame}
 use Rattle.action_frame.specs.Frames.{header, tailOf}
 use Rattle.report.specs.declared.marks.Mark.{Mark}
 use Rattle.report.specs.declared.marks.Line.{Line}
-use Rattle.report.specs.Marks.{Stand, line, nothing, atHeader, atStep, atPlace, behindItem, standsAt}
+use Rattle.report.specs.Marks.{Stand, line, nothing, atHeader, atStep, behindItem, standsAt}
 use Rattle.report.specs.Shown.{answerOf, bufferOf, Shows}
 
 -- how much is still to come from a mark, at most

@@ -1,7 +1,7 @@
 -- The lines of one frame, computed from their definition.
 -- Assumes nothing.
 use mathlib.Core.Path.{_≡_, refl}
-use mathlib.Core.List.{List, [], _∷_}
+use mathlib.Core.List.{[], _∷_}
 use Rattle.tlvs.specs.Items.{stepAt}
 use Rattle.tlvs.specs.Walk.{walkFrom}
 use Rattle.report.specs.Text.{text, spelled}

@@ -1,18 +1,14 @@
 -- What stands at a place of the walk is what its step finds, by the two tests on the way there; at a place that is none, there is no line.
 -- Assumes nothing.
-use Prim.Native.Nat.{ℕ, _+_, _≤_, _<_}
-use mathlib.Core.Path.{_≡_, refl, sym, ap, _∙_}
+use Prim.Native.Nat.{ℕ, _≤_, _<_}
+use mathlib.Core.Path.{_≡_}
 use mathlib.Core.List.{List}
 use lib.ListN.{length}
 use borrow.Author.Tests.{le-leb, lt-leb}
-use Rattle.tlvs.specs.declared.item.Item.{Item}
 use Rattle.tlvs.specs.declared.item.Step.{Step}
 use Rattle.tlvs.specs.Items.{stepAt}
-use Rattle.tlvs.specs.Walk.{cut}
-use Rattle.tlvs.proofs.Steps.{step-stands, step-cut}
-use Rattle.report.specs.declared.marks.Mark.{Mark}
 use Rattle.report.specs.declared.marks.Line.{Line}
-use Rattle.report.specs.Marks.{Stand, line, nothing, atStep, atPlace}
+use Rattle.report.specs.Marks.{Stand, nothing, atStep, atPlace}
 use Rattle.report.specs.Shown.{Shows}
 
 pub no-line : {s : List ℕ} {stand : Stand} → stand ≡ nothing → Shows s stand Line.Nothing s

@@ -4,7 +4,6 @@ use mathlib.Core.Path.{_≡_}
 use mathlib.Core.List.{List, _++_}
 use lib.ListN.{length, drop}
 use Rattle.wire.specs.Writing.{Put}
-use Rattle.report.specs.declared.marks.Mark.{Mark}
 use Rattle.report.specs.declared.marks.Line.{Line}
 use Rattle.report.specs.Marks.{Stand, line, nothing}
 

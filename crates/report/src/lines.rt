@@ -1,20 +1,17 @@
 // A function for each line. Its words and the most digits of its numbers leave room in 128 bytes.
-ghost use Prim.Native.Nat.{_+_, _<_, _≤_, _^_};
+ghost use Prim.Native.Nat.{_+_, _≤_};
 ghost use mathlib.Core.Path.{_≡_};
 ghost use mathlib.Core.List.{_++_};
 ghost use lib.ListN.{length};
-ghost use Rattle.wire.specs.Refusals.{numberOf};
 ghost use Rattle.action_frame.specs.Said.{saidDelta};
 ghost use Rattle.report.specs.Text.{text, decimal, named};
-ghost use Rattle.report.specs.Lines.{deltaWords, headerLine, itemLine};
+ghost use Rattle.report.specs.Lines.{deltaWords, headerLine};
 ghost use Rattle.report.specs.Shown.{Laid};
 use crate::text::put_named;
 use crate::text::put_word;
 use action_frame::AWDLActionFrame;
 use action_frame::Delta;
 use action_frame::tx_delta;
-use tlvs::Item;
-use wire::Refusal;
 
 pub(crate) fn of_u8(x: u8) -> u64
     ensures { λ r. ⌜ r ≡ x ⌝ }

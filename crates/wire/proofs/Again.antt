@@ -1,7 +1,7 @@
 -- One reader beside another: what the second reads where the first accepts, for each way of putting readers together.
 -- Assumes nothing.
 use Prim.Native.Nat.{ℕ}
-use mathlib.Core.Path.{_≡_, refl, sym, ap, _∙_}
+use mathlib.Core.Path.{_≡_, refl, sym, _∙_}
 use mathlib.Core.Bool.{Bool, true, false, cond}
 use mathlib.Core.List.{List}
 use Rattle.wire.specs.declared.refusal.Refusal.{Refusal}

@@ -1,38 +1,18 @@
--- What code that stores byte after byte leaves is what `putting` says; putting one run behind another is putting both at once.
+-- A slice that is copied byte after byte leaves what `putting` says; putting one run behind another is putting both at once.
 -- Assumes nothing.
-use Prim.Native.Nat.{ℕ, suc, _+_, _-_, _≤_, _<_}
-use native.Mathlib.Nat.{add-suc, add-zero, zero-add, add-assoc}
-use native.Mathlib.Numerals.{add-one}
+use Prim.Native.Nat.{ℕ, _+_, _-_, _≤_, _<_}
+use native.Mathlib.Nat.{add-zero, zero-add, add-assoc}
 use native.Mathlib.Omega.{arith}
 use mathlib.Core.Path.{_≡_, refl, sym, ap, _∙_}
 use mathlib.Core.Bool.{Bool, true, false}
-use mathlib.Core.List.{List, [], _∷_, _++_, append-assoc, append-nil}
+use mathlib.Core.List.{List, [], _++_, append-assoc, append-nil}
 use lib.Dec.{leb}
-use lib.ListN.{length, take, drop, set, length-append, length-take, length-drop, take-append-drop}
-use lib.Seq.{sets, sets-eq, paste, paste-zero, take-length, take-at, drop-append-add, drop-drop}
+use lib.ListN.{length, take, drop, length-append, length-take, length-drop, take-append-drop}
+use lib.Seq.{paste, paste-zero, take-length, take-at, drop-append-add, drop-drop}
 use borrow.Author.Tests.{le-leb, lt-leb, leb-true, leb-false}
 use Rattle.wire.specs.declared.refusal.Refusal.{Refusal}
 use Rattle.wire.specs.Answer.{Answer, answer, refusal}
 use Rattle.wire.specs.Writing.{fits, behind, Put, within, lengthOf, Wrote}
-
--- bytes stored one after the other, the first of them k behind a place
-abbrev pub over : List ℕ → ℕ → ℕ → List ℕ → List ℕ
-over s at k [] = s
-over s at k (b ∷ bs) = over (set s (at + k) b) at (suc k) bs
-
-over-sets : (s : List ℕ) (at k : ℕ) (bs : List ℕ) → over s at k bs ≡ sets s (at + k) bs
-over-sets s at k [] = refl
-over-sets s at k (b ∷ bs) = over-sets (set s (at + k) b) at (suc k) bs ∙ rw (add-suc at k)
-
-pub put-whole : (s : List ℕ) (at b : ℕ) (bs : List ℕ) → suc (length bs) ≤ length s - at
-    → Put s at (b ∷ bs) (at + suc (length bs)) (over (set s at b) at 1 bs)
-put-whole s at b bs h =
-    let inside : at + suc (length bs) ≤ length s = omega arith in
-    let room : fits s at (b ∷ bs) ≡ true = le-leb (at + suc (length bs)) (length s) inside in
-    record {
-      place = rw room;
-      buffer = rw (room, ← sets-eq (b ∷ bs) s at inside) (over-sets (set s at b) at 1 bs ∙ rw add-one);
-    }
 
 pub put-none : (s : List ℕ) (at : ℕ) (bytes : List ℕ) → length s - at < length bytes → Put s at bytes at s
 put-none s at bytes h =

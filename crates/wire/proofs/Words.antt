@@ -1,12 +1,12 @@
 -- A word laid out by runs is a mask and a sum, and its bits are those of its runs: by induction on the runs, each a block of its own.
 -- Assumes nothing.
-use Prim.Native.Nat.{ℕ, zero, suc, _+_, _-_, _*_, _/_, _%_, _^_, _≤_, _<_}
-use native.Mathlib.Nat.{add-comm, add-assoc, add-zero, zero-add, add-mul, mod-lt, mod-mod, div-one}
+use Prim.Native.Nat.{ℕ, _+_, _-_, _*_, _/_, _%_, _^_, _<_}
+use native.Mathlib.Nat.{add-zero, add-mul, mod-lt, mod-mod, div-one}
 use native.Mathlib.Omega.{arith}
-use mathlib.Core.Path.{_≡_, refl, sym, ap, ap₂, _∙_}
+use mathlib.Core.Path.{_≡_, refl, sym, ap, _∙_}
 use mathlib.Core.Bool.{Bool, true, false, cond}
 use mathlib.Core.List.{List, [], _∷_, _++_}
-use lib.Bits.{bitAnd, and-block, and-mask, and-zero-r, and-self}
+use lib.Bits.{bitAnd, and-block, and-mask, and-zero-r}
 use lib.Pow.{pow-pos, split, high, low, ones-lt, shl-shr, shr-shr}
 use Rattle.wire.specs.Words.{Run, keep, clear, put, laid, maskOf, addedBy}
 

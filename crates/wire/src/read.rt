@@ -1,5 +1,5 @@
 ghost use mathlib.Core.Path.{_≡_};
-ghost use Prim.Native.Nat.{_-_, _<_};
+ghost use Prim.Native.Nat.{_+_, _*_, _-_, _<_};
 ghost use Rattle.wire.specs.Numbers.{number};
 ghost use Rattle.wire.specs.Addresses.{address};
 ghost use Rattle.wire.specs.Said.{saidU8, saidU16, saidU32, saidAddress, saidPlace};
@@ -44,14 +44,6 @@ pub(crate) fn left(len: usize, at: usize) -> usize
     if at <= len { len - at } else { 0 }
 }
 
-// A byte as a wider number. The bound spares each caller a proof that its sums fit.
-fn wide(x: u8) -> u32
-    ensures { λ r. ⌜ r ≡ x ⌝ }
-    ensures { λ r. ⌜ r < 256 ⌝ }
-{
-    x as u32
-}
-
 pub fn u8_at(s: &[u8], at: usize) -> ReadU8
     ensures { λ r. ⌜ saidU8 r ≡ number 1 (now (s .entry)) at ⌝ }
 {
@@ -61,15 +53,21 @@ pub fn u8_at(s: &[u8], at: usize) -> ReadU8
     ReadU8::Read(s[at], at + 1)
 }
 
+// The number that two bytes write. The bound spares each caller a proof that its sums fit.
+fn pair(low: u8, high: u8) -> u32
+    ensures { λ r. ⌜ r ≡ low + 256 * high ⌝ }
+    ensures { λ r. ⌜ r < 65536 ⌝ }
+{
+    low as u32 + 256 * high as u32
+}
+
 pub fn u16_at(s: &[u8], at: usize) -> ReadU16
     ensures { λ r. ⌜ saidU16 r ≡ number 2 (now (s .entry)) at ⌝ }
 {
     if left(s.len(), at) < 2 {
         return ReadU16::Refused(Refusal::Short);
     }
-    let low = wide(s[at]);
-    let high = wide(s[at + 1]);
-    ReadU16::Read((low + 256 * high) as u16, at + 2)
+    ReadU16::Read(pair(s[at], s[at + 1]) as u16, at + 2)
 }
 
 pub fn u32_at(s: &[u8], at: usize) -> ReadU32
@@ -78,11 +76,9 @@ pub fn u32_at(s: &[u8], at: usize) -> ReadU32
     if left(s.len(), at) < 4 {
         return ReadU32::Refused(Refusal::Short);
     }
-    let b0 = wide(s[at]);
-    let b1 = wide(s[at + 1]);
-    let b2 = wide(s[at + 2]);
-    let b3 = wide(s[at + 3]);
-    ReadU32::Read(b0 + 256 * (b1 + 256 * (b2 + 256 * b3)), at + 4)
+    let low = pair(s[at], s[at + 1]);
+    let high = pair(s[at + 2], s[at + 3]);
+    ReadU32::Read(low + 65536 * high, at + 4)
 }
 
 // The place behind n bytes. It finds the shortage for a caller that takes the bytes as a part.

@@ -31,55 +31,6 @@ pub fn within(len: usize, size: Size) -> Size
 
 // Each of these puts bytes into a lent buffer at a place and gives the place behind them. Where they
 // do not fit, the buffer and the place stay as they are.
-pub fn put_u8(buf: &mut [u8], at: usize, v: u8) -> usize
-    ensures { λ r. ⌜ Put (now (buf .entry)) at (littleBytes 1 v) r (now (buf .exit)) ⌝ }
-{
-    if left(buf.len(), at) < 1 {
-        return at;
-    }
-    buf[at] = v;
-    at + 1
-}
-
-pub fn put_u16(buf: &mut [u8], at: usize, v: u16) -> usize
-    ensures { λ r. ⌜ Put (now (buf .entry)) at (littleBytes 2 v) r (now (buf .exit)) ⌝ }
-{
-    if left(buf.len(), at) < 2 {
-        return at;
-    }
-    buf[at] = (v % 256) as u8;
-    buf[at + 1] = (v / 256 % 256) as u8;
-    at + 2
-}
-
-pub fn put_u32(buf: &mut [u8], at: usize, v: u32) -> usize
-    ensures { λ r. ⌜ Put (now (buf .entry)) at (littleBytes 4 v) r (now (buf .exit)) ⌝ }
-{
-    if left(buf.len(), at) < 4 {
-        return at;
-    }
-    buf[at] = (v % 256) as u8;
-    buf[at + 1] = (v / 256 % 256) as u8;
-    buf[at + 2] = (v / 256 / 256 % 256) as u8;
-    buf[at + 3] = (v / 256 / 256 / 256 % 256) as u8;
-    at + 4
-}
-
-pub fn put_address(buf: &mut [u8], at: usize, v: MACAddress) -> usize
-    ensures { λ r. ⌜ Put (now (buf .entry)) at (addressBytes v) r (now (buf .exit)) ⌝ }
-{
-    if left(buf.len(), at) < 6 {
-        return at;
-    }
-    buf[at] = v.0;
-    buf[at + 1] = v.1;
-    buf[at + 2] = v.2;
-    buf[at + 3] = v.3;
-    buf[at + 4] = v.4;
-    buf[at + 5] = v.5;
-    at + 6
-}
-
 pub fn put_slice(buf: &mut [u8], at: usize, bytes: &[u8]) -> usize
     ensures { λ r. ⌜ Put (now (buf .entry)) at (now (bytes .entry)) r (now (buf .exit)) ⌝ }
 {
@@ -93,4 +44,34 @@ pub fn put_slice(buf: &mut [u8], at: usize, bytes: &[u8]) -> usize
         i += 1;
     }
     at + n
+}
+
+pub fn put_u8(buf: &mut [u8], at: usize, v: u8) -> usize
+    ensures { λ r. ⌜ Put (now (buf .entry)) at (littleBytes 1 v) r (now (buf .exit)) ⌝ }
+{
+    put_slice(buf, at, &[v])
+}
+
+pub fn put_u16(buf: &mut [u8], at: usize, v: u16) -> usize
+    ensures { λ r. ⌜ Put (now (buf .entry)) at (littleBytes 2 v) r (now (buf .exit)) ⌝ }
+{
+    let low = (v % 256) as u8;
+    let high = (v / 256 % 256) as u8;
+    put_slice(buf, at, &[low, high])
+}
+
+pub fn put_u32(buf: &mut [u8], at: usize, v: u32) -> usize
+    ensures { λ r. ⌜ Put (now (buf .entry)) at (littleBytes 4 v) r (now (buf .exit)) ⌝ }
+{
+    let b0 = (v % 256) as u8;
+    let b1 = (v / 256 % 256) as u8;
+    let b2 = (v / 256 / 256 % 256) as u8;
+    let b3 = (v / 256 / 256 / 256 % 256) as u8;
+    put_slice(buf, at, &[b0, b1, b2, b3])
+}
+
+pub fn put_address(buf: &mut [u8], at: usize, v: MACAddress) -> usize
+    ensures { λ r. ⌜ Put (now (buf .entry)) at (addressBytes v) r (now (buf .exit)) ⌝ }
+{
+    put_slice(buf, at, &[v.0, v.1, v.2, v.3, v.4, v.5])
 }

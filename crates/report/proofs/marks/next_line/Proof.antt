@@ -1,12 +1,11 @@
 -- `next_line` meets its contract: each mark has the line of the function that it is handed to.
 -- Assumes nothing.
 use Rattle.report.proofs.Laid.{shows-line}
-use Rattle.report.proofs.Places.{no-line}
 use Rattle.report.proofs.marks.next_line.Statement.{statement}
 use Rattle.report.proofs.marks.next_line.Tie as tie
 use Rattle.report.specs.Marks.{standsAt}
 use borrow.Author.Needs.{needs}
-use mathlib.Core.Path.{sym, ap, _∙_}
+use mathlib.Core.Path.{ap}
 
 tail-requires : tie.Need-tail-requires
 tail-requires c κs = search needs

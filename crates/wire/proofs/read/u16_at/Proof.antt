@@ -14,36 +14,28 @@ returns c =
     let a = c .before .before .before .args in
     number-short 1 (a .s .now) (a .at) (omega arith)
 
-shared-slice-read-wide : tie.Need-shared-slice-read-wide
-shared-slice-read-wide c = search needs
+shared-slice-read-pair : tie.Need-shared-slice-read-pair
+shared-slice-read-pair c = search needs
 
-wide-requires : tie.Need-wide-requires
-wide-requires c κs = search needs
+add-pair : tie.Need-add-pair
+add-pair c = search needs
 
-add-wide : tie.Need-add-wide
-add-wide c = search needs
+shared-slice-read-pair-2 : tie.Need-shared-slice-read-pair-2
+shared-slice-read-pair-2 c = search needs
 
-shared-slice-read-wide-2 : tie.Need-shared-slice-read-wide-2
-shared-slice-read-wide-2 c = search needs
+pair-requires : tie.Need-pair-requires
+pair-requires c κs = search needs
 
-wide-requires-2 : tie.Need-wide-requires-2
-wide-requires-2 c κs = search needs
+cast-t12 : tie.Need-cast-t12
+cast-t12 c = search needs
 
-mul-t12 : tie.Need-mul-t12
-mul-t12 c = search needs
-
-add-t13 : tie.Need-add-t13
-add-t13 c = search needs
-
-cast-t14 : tie.Need-cast-t14
-cast-t14 c = search needs
-
-add-t6 : tie.Need-add-t6
-add-t6 c = search needs
+add-t4 : tie.Need-add-t4
+add-t4 c = search needs
 
 returns-2 : tie.Need-returns-2
 returns-2 c =
-    let a = c .before .before .before .before .before .before .before .args in
+    let a = c .before .before .before .before .before .before .args in
+    let low = c .pair .ensures in
     number-whole 1 (a .s .now) (a .at) _ (omega arith) (omega arith)
 
 pub u16-at-spec : {M : Type 1} → statement M
@@ -52,13 +44,10 @@ u16-at-spec =
     (tie.spec
     left-requires
     returns
-    shared-slice-read-wide
-    wide-requires
-    add-wide
-    shared-slice-read-wide-2
-    wide-requires-2
-    mul-t12
-    add-t13
-    cast-t14
-    add-t6
+    shared-slice-read-pair
+    add-pair
+    shared-slice-read-pair-2
+    pair-requires
+    cast-t12
+    add-t4
     returns-2)

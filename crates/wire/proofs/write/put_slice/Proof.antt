@@ -6,8 +6,8 @@ use Rattle.wire.proofs.write.put_slice.Statement.{statement}
 use Rattle.wire.proofs.write.put_slice.Tie as tie
 use borrow.Author.Needs.{needs}
 use lib.ListN.{length, length-set}
-use lib.Seq.{paste, paste-zero, paste-suc, length-paste}
-use mathlib.Core.Path.{_≡_, ap, _∙_}
+use lib.Seq.{paste, paste-zero, paste-suc}
+use mathlib.Core.Path.{_≡_}
 use native.Mathlib.Numerals.{add-one}
 use native.Mathlib.Omega.{arith}
 

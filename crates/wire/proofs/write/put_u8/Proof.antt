@@ -1,37 +1,26 @@
--- `wire::put_u8` meets its contract: its stores, one after the other, are what `putting` says.
+-- `wire::put_u8` meets its contract: a byte is its own remainder.
 -- Assumes nothing.
-use Rattle.wire.proofs.Stores.{put-whole, put-none}
+use Prim.Native.Nat.{_%_}
 use Rattle.wire.proofs.write.put_u8.Statement.{statement}
 use Rattle.wire.proofs.write.put_u8.Tie as tie
-use Prim.Native.Nat.{_%_}
-use mathlib.Core.List.{[]}
-use mathlib.Core.Path.{_≡_}
 use borrow.Author.Needs.{needs}
+use mathlib.Core.Path.{_≡_}
 use native.Mathlib.Omega.{arith}
 
-left-requires : tie.Need-left-requires
-left-requires c κs = search needs
+slice-aggregate-put-slice : tie.Need-slice-aggregate-put-slice
+slice-aggregate-put-slice c = search needs
 
-returns : tie.Need-returns
-returns c =
-    let a = c .before .before .before .args in
-    put-none (a .buf .now) (a .at) _ (omega arith)
-
-slice-write-buf : tie.Need-slice-write-buf
-slice-write-buf c = search needs
-
-add-result : tie.Need-add-result
-add-result c = search needs
+put-slice-requires : tie.Need-put-slice-requires
+put-slice-requires c κs = search needs
 
 same-length : tie.Need-same-length
 same-length c = search needs
 
-returns-2 : tie.Need-returns-2
-returns-2 c =
-    let a = c .before .before .before .args in
-    let e : a .v % 256 ≡ a .v = omega arith in
-    rw e (put-whole (a .buf .now) (a .at) (a .v) [] (omega arith))
+returns : tie.Need-returns
+returns c =
+    let a = c .before .before .before .before .before .before in
+    let byte : a .args .v ≡ a .args .v % 256 = let small = a .good .1 .1 .0 .1 in omega arith in
+    rw byte at (c .before .before .put-slice .ensures)
 
 pub put-u8-spec : {M : Type 1} → statement M
-put-u8-spec =
-    tie.close (tie.spec left-requires returns slice-write-buf add-result same-length returns-2)
+put-u8-spec = tie.close (tie.spec slice-aggregate-put-slice put-slice-requires same-length returns)
