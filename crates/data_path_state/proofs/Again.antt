@@ -11,14 +11,15 @@ use Rattle.wire.specs.Numbers.{number, littleBytes, bit}
 use Rattle.wire.specs.Addresses.{address}
 use Rattle.wire.specs.Words.{laid}
 use Rattle.wire.proofs.Again.{Again, again-give, again-refuse, again-bind, again-step, again-group, again-when, again-cond}
-use Rattle.data_path_state.specs.declared.misc.DataPathChannel.{DataPathChannel}
-use Rattle.data_path_state.specs.declared.read.Head.{Head}
-use Rattle.data_path_state.specs.declared.read.Addresses.{Addresses}
-use Rattle.data_path_state.specs.declared.read.Body.{Body}
-use Rattle.data_path_state.specs.declared.read.Unicast.{Unicast}
-use Rattle.data_path_state.specs.declared.read.Extended.{Extended}
-use Rattle.data_path_state.specs.Words.{extendedKept, channelOf, wordOf}
-use Rattle.data_path_state.specs.DataPath.{head, addresses, body, country, channelWord, infra, oneAddress, oneWord, optionsAnd, unicast, triggerId, stats, extendedOf, extended, dataPath}
+use Rattle.data_path_fields.specs.declared.misc.DataPathChannel.{DataPathChannel}
+use Rattle.data_path_fields.specs.declared.read.Head.{Head}
+use Rattle.data_path_fields.specs.declared.read.Addresses.{Addresses}
+use Rattle.data_path_fields.specs.declared.read.Body.{Body}
+use Rattle.data_path_fields.specs.declared.read.Unicast.{Unicast}
+use Rattle.data_path_fields.specs.declared.read.Extended.{Extended}
+use Rattle.data_path_fields.specs.Words.{extendedKept, channelOf, wordOf}
+use Rattle.data_path_fields.specs.Fields.{head, addresses, body, country, channelWord, infra, oneAddress, oneWord, optionsAnd, unicast, triggerId, stats, extendedOf, extended}
+use Rattle.data_path_state.specs.DataPath.{dataPath}
 use Rattle.data_path_state.specs.Bytes.{countryBytes, channelBytes, infraBytes, oneAddressBytes, wordBytes, triggerIdBytes, statsBytes, laidDown}
 use Rattle.data_path_state.specs.Rewritten.{countryAgain, channelAgain, infraAgain, addressAgain, wordAgain, oneAgain, twoAgain, unicastAgain, statsAgain, announcedAgain, extendedAgain, Front, headAgain, addressesAgain, bodyAgain, rewritten}
 

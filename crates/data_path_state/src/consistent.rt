@@ -1,12 +1,12 @@
 ghost use mathlib.Core.Path.{_≡_};
 ghost use Rattle.data_path_state.specs.Consistent as C;
-use crate::data_path_state_tlv::DataPathExtendedFlags;
-use crate::data_path_state_tlv::DataPathFlags;
 use crate::data_path_state_tlv::DataPathStateTLV;
-use crate::misc::ChannelMap;
-use crate::misc::DataPathChannel;
-use crate::misc::DataPathStats;
-use crate::misc::UnicastOptions;
+use data_path_fields::ChannelMap;
+use data_path_fields::DataPathChannel;
+use data_path_fields::DataPathExtendedFlags;
+use data_path_fields::DataPathFlags;
+use data_path_fields::DataPathStats;
+use data_path_fields::UnicastOptions;
 use wire::MACAddress;
 
 // The tests below have no branches: each is a formula, as its definition is.

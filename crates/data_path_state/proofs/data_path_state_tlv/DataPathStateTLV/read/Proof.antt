@@ -2,7 +2,7 @@
 -- Assumes nothing.
 use Rattle.data_path_state.proofs.data_path_state_tlv.DataPathStateTLV.read.Statement.{statement}
 use Rattle.data_path_state.proofs.data_path_state_tlv.DataPathStateTLV.read.Tie as tie
-use Rattle.data_path_state.specs.Said.{saidBody, saidHead}
+use Rattle.data_path_fields.specs.Said.{saidBody, saidHead}
 use Rattle.wire.proofs.Once.{told}
 use borrow.Author.Needs.{needs}
 
