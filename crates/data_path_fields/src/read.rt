@@ -111,21 +111,23 @@ pub fn read_head(s: &[u8]) -> ReadHead
                 ReadCountry::Read(country, behind_country) => {
                     let has_channel = flags / DataPathFlags::CHANNEL_MAP_PRESENT % 2 == 1;
                     match channel_map(s, behind_country, has_channel) {
-                        ReadChannel::Read(channel, next) => ReadHead::Read(
-                            Head {
-                                flags,
-                                country,
-                                channel,
-                            },
-                            next,
-                        ),
-                        ReadChannel::Refused(why) => ReadHead::Refused(why),
+                        ReadChannel::Read(channel, next) => {
+                            return ReadHead::Read(
+                                Head {
+                                    flags,
+                                    country,
+                                    channel,
+                                },
+                                next,
+                            );
+                        }
+                        ReadChannel::Refused(why) => return ReadHead::Refused(why),
                     }
                 }
-                ReadCountry::Refused(why) => ReadHead::Refused(why),
+                ReadCountry::Refused(why) => return ReadHead::Refused(why),
             }
         }
-        ReadU16::Refused(why) => ReadHead::Refused(why),
+        ReadU16::Refused(why) => return ReadHead::Refused(why),
     }
 }
 
@@ -156,17 +158,19 @@ fn infra_bssid_channel(s: &[u8], at: usize, present: bool) -> ReadInfra
     }
     match wire::address_at(s, at) {
         ReadAddress::Read(bssid, behind_bssid) => match wire::u16_at(s, behind_bssid) {
-            ReadU16::Read(infra_channel, next) => ReadInfra::Read(
-                InfraBssidChannel {
-                    present: true,
-                    bssid,
-                    channel: infra_channel,
-                },
-                next,
-            ),
-            ReadU16::Refused(why) => ReadInfra::Refused(why),
+            ReadU16::Read(infra_channel, next) => {
+                return ReadInfra::Read(
+                    InfraBssidChannel {
+                        present: true,
+                        bssid,
+                        channel: infra_channel,
+                    },
+                    next,
+                );
+            }
+            ReadU16::Refused(why) => return ReadInfra::Refused(why),
         },
-        ReadAddress::Refused(why) => ReadInfra::Refused(why),
+        ReadAddress::Refused(why) => return ReadInfra::Refused(why),
     }
 }
 
@@ -223,15 +227,15 @@ fn read_addresses(s: &[u8], at: usize, flags: u16) -> ReadAddresses
                     let has_awdl = flags / DataPathFlags::AWDL_ADDRESS_PRESENT % 2 == 1;
                     match one_address(s, behind_infra, has_awdl) {
                         ReadOptionalAddress::Read(awdl, next) => {
-                            ReadAddresses::Read(Addresses { bssid, infra, awdl }, next)
+                            return ReadAddresses::Read(Addresses { bssid, infra, awdl }, next);
                         }
-                        ReadOptionalAddress::Refused(why) => ReadAddresses::Refused(why),
+                        ReadOptionalAddress::Refused(why) => return ReadAddresses::Refused(why),
                     }
                 }
-                ReadOptionalAddress::Refused(why) => ReadAddresses::Refused(why),
+                ReadOptionalAddress::Refused(why) => return ReadAddresses::Refused(why),
             }
         }
-        ReadInfra::Refused(why) => ReadAddresses::Refused(why),
+        ReadInfra::Refused(why) => return ReadAddresses::Refused(why),
     }
 }
 
@@ -285,11 +289,11 @@ fn options_and_ext(s: &[u8], at: usize, has_ext: bool) -> ReadUnicast
                     present: true,
                     options: UnicastOptions::from_bits(word),
                 };
-                ReadUnicast::Read(Unicast { options, ext }, next)
+                return ReadUnicast::Read(Unicast { options, ext }, next);
             }
-            ReadWord::Refused(why) => ReadUnicast::Refused(why),
+            ReadWord::Refused(why) => return ReadUnicast::Refused(why),
         },
-        ReadU32::Refused(why) => ReadUnicast::Refused(why),
+        ReadU32::Refused(why) => return ReadUnicast::Refused(why),
     }
 }
 
@@ -363,19 +367,19 @@ fn three_words(s: &[u8], at: usize) -> ReadStats
                         aw_seq_counter,
                         pay_update_coutner,
                     };
-                    ReadStats::Read(
+                    return ReadStats::Read(
                         OptionalStats {
                             present: true,
                             stats,
                         },
                         next,
-                    )
+                    );
                 }
-                ReadU32::Refused(why) => ReadStats::Refused(why),
+                ReadU32::Refused(why) => return ReadStats::Refused(why),
             },
-            ReadU32::Refused(why) => ReadStats::Refused(why),
+            ReadU32::Refused(why) => return ReadStats::Refused(why),
         },
-        ReadU32::Refused(why) => ReadStats::Refused(why),
+        ReadU32::Refused(why) => return ReadStats::Refused(why),
     }
 }
 
@@ -427,7 +431,7 @@ fn announced(s: &[u8], at: usize, word: u16) -> ReadExtended
                                 present: true,
                                 flags: DataPathExtendedFlags(word),
                             };
-                            ReadExtended::Read(
+                            return ReadExtended::Read(
                                 Extended {
                                     flags,
                                     trigger,
@@ -435,15 +439,15 @@ fn announced(s: &[u8], at: usize, word: u16) -> ReadExtended
                                     stats,
                                 },
                                 next,
-                            )
+                            );
                         }
-                        ReadStats::Refused(why) => ReadExtended::Refused(why),
+                        ReadStats::Refused(why) => return ReadExtended::Refused(why),
                     }
                 }
-                ReadWord::Refused(why) => ReadExtended::Refused(why),
+                ReadWord::Refused(why) => return ReadExtended::Refused(why),
             }
         }
-        ReadTriggerId::Refused(why) => ReadExtended::Refused(why),
+        ReadTriggerId::Refused(why) => return ReadExtended::Refused(why),
     }
 }
 
@@ -516,20 +520,22 @@ pub fn read_body(s: &[u8], at: usize, flags: u16) -> ReadBody
                 ReadUnicast::Read(unicast, behind_unicast) => {
                     let has_extended = flags / DataPathFlags::EXTENDED_FLAGS % 2 == 1;
                     match read_extended(s, behind_unicast, has_extended) {
-                        ReadExtended::Read(extended, next) => ReadBody::Read(
-                            Body {
-                                addresses,
-                                unicast,
-                                extended,
-                            },
-                            next,
-                        ),
-                        ReadExtended::Refused(why) => ReadBody::Refused(why),
+                        ReadExtended::Read(extended, next) => {
+                            return ReadBody::Read(
+                                Body {
+                                    addresses,
+                                    unicast,
+                                    extended,
+                                },
+                                next,
+                            );
+                        }
+                        ReadExtended::Refused(why) => return ReadBody::Refused(why),
                     }
                 }
-                ReadUnicast::Refused(why) => ReadBody::Refused(why),
+                ReadUnicast::Refused(why) => return ReadBody::Refused(why),
             }
         }
-        ReadAddresses::Refused(why) => ReadBody::Refused(why),
+        ReadAddresses::Refused(why) => return ReadBody::Refused(why),
     }
 }

@@ -60,15 +60,13 @@ impl DataPathStateTLV {
         ensures { λ r. ⌜ saidDataPath r ≡ dataPath (now (s .entry)) 0 ⌝ }
     {
         match data_path_fields::read_head(s) {
-            ReadHead::Read(head, behind_head) => match data_path_fields::read_body(
-                s,
-                behind_head,
-                head.flags,
-            ) {
-                ReadBody::Read(body, size) => ReadDataPathState::Read(whole(head, body), size),
-                ReadBody::Refused(why) => ReadDataPathState::Refused(why),
+            ReadHead::Read(head, at) => match data_path_fields::read_body(s, at, head.flags) {
+                ReadBody::Read(body, size) => {
+                    return ReadDataPathState::Read(whole(head, body), size);
+                }
+                ReadBody::Refused(why) => return ReadDataPathState::Refused(why),
             },
-            ReadHead::Refused(why) => ReadDataPathState::Refused(why),
+            ReadHead::Refused(why) => return ReadDataPathState::Refused(why),
         }
     }
 
@@ -112,18 +110,15 @@ fn whole(head: Head, body: Body) -> DataPathStateTLV
 {
     let country_code = head.country;
     let channel_map = head.channel;
-    let addresses = body.addresses;
-    let unicast = body.unicast;
-    let extended = body.extended;
-    let infra_bssid_channel = addresses.bssid;
-    let infra_address = addresses.infra;
-    let awdl_address = addresses.awdl;
-    let unicast_options = unicast.options;
-    let unicast_options_ext = unicast.ext;
-    let extended_flags = extended.flags;
-    let rlfc = extended.rlfc;
-    let log_trigger_id = extended.trigger;
-    let stats = extended.stats;
+    let infra_bssid_channel = body.addresses.bssid;
+    let infra_address = body.addresses.infra;
+    let awdl_address = body.addresses.awdl;
+    let unicast_options = body.unicast.options;
+    let unicast_options_ext = body.unicast.ext;
+    let extended_flags = body.extended.flags;
+    let rlfc = body.extended.rlfc;
+    let log_trigger_id = body.extended.trigger;
+    let stats = body.extended.stats;
     DataPathStateTLV {
         flags: DataPathFlags(head.flags),
         country_code,

@@ -24,15 +24,6 @@ stats-requires c κs = search needs
 enum-known-stats : tie.Need-enum-known-stats
 enum-known-stats c = search needs
 
-enum-known-why : tie.Need-enum-known-why
-enum-known-why c = search needs
-
-enum-known-why-2 : tie.Need-enum-known-why-2
-enum-known-why-2 c = search needs
-
-enum-known-why-3 : tie.Need-enum-known-why-3
-enum-known-why-3 c = search needs
-
 returns : tie.Need-returns
 returns c =
     rw (
@@ -40,6 +31,9 @@ returns c =
       told saidWord (c .before .before .before .before .before .before .before .one-word .ensures) (c .before .before .before .before .before .rlfc .given .1),
       told saidStats (c .before .before .before .stats .ensures) (c .before .stats2 .given .1),
     )
+
+enum-known-why : tie.Need-enum-known-why
+enum-known-why c = search needs
 
 returns-2 : tie.Need-returns-2
 returns-2 c =
@@ -49,12 +43,18 @@ returns-2 c =
       told saidStats (c .before .before .before .stats .ensures) (c .before .why .given .1),
     )
 
+enum-known-why-2 : tie.Need-enum-known-why-2
+enum-known-why-2 c = search needs
+
 returns-3 : tie.Need-returns-3
 returns-3 c =
     rw (
       told saidTriggerId (c .before .before .before .before .before .before .before .log-trigger-id .ensures) (c .before .before .before .before .before .trigger .given .1),
       told saidWord (c .before .before .before .one-word .ensures) (c .before .why2 .given .1),
     )
+
+enum-known-why-3 : tie.Need-enum-known-why-3
+enum-known-why-3 c = search needs
 
 returns-4 : tie.Need-returns-4
 returns-4 c = rw (told saidTriggerId (c .before .before .before .log-trigger-id .ensures) (c .before .why3 .given .1))
@@ -69,10 +69,10 @@ announced-spec =
     enum-known-rlfc
     stats-requires
     enum-known-stats
-    enum-known-why
-    enum-known-why-2
-    enum-known-why-3
     returns
+    enum-known-why
     returns-2
+    enum-known-why-2
     returns-3
+    enum-known-why-3
     returns-4)

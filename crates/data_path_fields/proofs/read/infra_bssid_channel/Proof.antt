@@ -29,12 +29,6 @@ u16-at-requires c κs = search needs
 enum-known-infra-channel : tie.Need-enum-known-infra-channel
 enum-known-infra-channel c = search needs
 
-enum-known-why : tie.Need-enum-known-why
-enum-known-why c = search needs
-
-enum-known-why-2 : tie.Need-enum-known-why-2
-enum-known-why-2 c = search needs
-
 returns-2 : tie.Need-returns-2
 returns-2 c =
     rw (
@@ -43,6 +37,9 @@ returns-2 c =
       told saidU16 (c .before .before .before .u16-at .ensures) (c .before .infra-channel .given .1),
     )
 
+enum-known-why : tie.Need-enum-known-why
+enum-known-why c = search needs
+
 returns-3 : tie.Need-returns-3
 returns-3 c =
     rw (
@@ -50,6 +47,9 @@ returns-3 c =
       told saidAddress (c .before .before .before .before .before .before .before .address-at .ensures) (c .before .before .before .before .before .bssid .given .1),
       told saidU16 (c .before .before .before .u16-at .ensures) (c .before .why .given .1),
     )
+
+enum-known-why-2 : tie.Need-enum-known-why-2
+enum-known-why-2 c = search needs
 
 returns-4 : tie.Need-returns-4
 returns-4 c =
@@ -68,8 +68,8 @@ infra-bssid-channel-spec =
     enum-known-bssid
     u16-at-requires
     enum-known-infra-channel
-    enum-known-why
-    enum-known-why-2
     returns-2
+    enum-known-why
     returns-3
+    enum-known-why-2
     returns-4)

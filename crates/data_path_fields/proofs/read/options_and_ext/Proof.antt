@@ -22,12 +22,6 @@ enum-known-ext c = search needs
 from-bits-requires : tie.Need-from-bits-requires
 from-bits-requires c κs = search needs
 
-enum-known-why : tie.Need-enum-known-why
-enum-known-why c = search needs
-
-enum-known-why-2 : tie.Need-enum-known-why-2
-enum-known-why-2 c = search needs
-
 returns : tie.Need-returns
 returns c =
     rw (
@@ -36,12 +30,18 @@ returns c =
       c .from-bits .ensures,
     )
 
+enum-known-why : tie.Need-enum-known-why
+enum-known-why c = search needs
+
 returns-2 : tie.Need-returns-2
 returns-2 c =
     rw (
       told saidU32 (c .before .before .before .before .before .before .before .u32-at .ensures) (c .before .before .before .before .before .word .given .1),
       told saidWord (c .before .before .before .one-word .ensures) (c .before .why .given .1),
     )
+
+enum-known-why-2 : tie.Need-enum-known-why-2
+enum-known-why-2 c = search needs
 
 returns-3 : tie.Need-returns-3
 returns-3 c = rw (told saidU32 (c .before .before .before .u32-at .ensures) (c .before .why2 .given .1))
@@ -55,8 +55,8 @@ options-and-ext-spec =
     one-word-requires
     enum-known-ext
     from-bits-requires
-    enum-known-why
-    enum-known-why-2
     returns
+    enum-known-why
     returns-2
+    enum-known-why-2
     returns-3)

@@ -24,15 +24,6 @@ one-address-requires-2 c κs = search needs
 enum-known-awdl : tie.Need-enum-known-awdl
 enum-known-awdl c = search needs
 
-enum-known-why : tie.Need-enum-known-why
-enum-known-why c = search needs
-
-enum-known-why-2 : tie.Need-enum-known-why-2
-enum-known-why-2 c = search needs
-
-enum-known-why-3 : tie.Need-enum-known-why-3
-enum-known-why-3 c = search needs
-
 returns : tie.Need-returns
 returns c =
     rw (
@@ -40,6 +31,9 @@ returns c =
       told saidAddress (c .before .before .before .before .before .before .before .one-address .ensures) (c .before .before .before .before .before .infra .given .1),
       told saidAddress (c .before .before .before .one-address2 .ensures) (c .before .awdl .given .1),
     )
+
+enum-known-why : tie.Need-enum-known-why
+enum-known-why c = search needs
 
 returns-2 : tie.Need-returns-2
 returns-2 c =
@@ -49,12 +43,18 @@ returns-2 c =
       told saidAddress (c .before .before .before .one-address2 .ensures) (c .before .why .given .1),
     )
 
+enum-known-why-2 : tie.Need-enum-known-why-2
+enum-known-why-2 c = search needs
+
 returns-3 : tie.Need-returns-3
 returns-3 c =
     rw (
       told saidInfra (c .before .before .before .before .before .before .before .infra-bssid-channel .ensures) (c .before .before .before .before .before .bssid .given .1),
       told saidAddress (c .before .before .before .one-address .ensures) (c .before .why2 .given .1),
     )
+
+enum-known-why-3 : tie.Need-enum-known-why-3
+enum-known-why-3 c = search needs
 
 returns-4 : tie.Need-returns-4
 returns-4 c = rw (told saidInfra (c .before .before .before .infra-bssid-channel .ensures) (c .before .why3 .given .1))
@@ -69,10 +69,10 @@ read-addresses-spec =
     enum-known-infra
     one-address-requires-2
     enum-known-awdl
-    enum-known-why
-    enum-known-why-2
-    enum-known-why-3
     returns
+    enum-known-why
     returns-2
+    enum-known-why-2
     returns-3
+    enum-known-why-3
     returns-4)

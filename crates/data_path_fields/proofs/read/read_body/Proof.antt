@@ -24,15 +24,6 @@ read-extended-requires c κs = search needs
 enum-known-extended : tie.Need-enum-known-extended
 enum-known-extended c = search needs
 
-enum-known-why : tie.Need-enum-known-why
-enum-known-why c = search needs
-
-enum-known-why-2 : tie.Need-enum-known-why-2
-enum-known-why-2 c = search needs
-
-enum-known-why-3 : tie.Need-enum-known-why-3
-enum-known-why-3 c = search needs
-
 returns : tie.Need-returns
 returns c =
     rw (
@@ -40,6 +31,9 @@ returns c =
       told saidUnicast (c .before .before .before .before .before .before .before .read-unicast .ensures) (c .before .before .before .before .before .unicast .given .1),
       told saidExtended (c .before .before .before .read-extended .ensures) (c .before .extended .given .1),
     )
+
+enum-known-why : tie.Need-enum-known-why
+enum-known-why c = search needs
 
 returns-2 : tie.Need-returns-2
 returns-2 c =
@@ -49,12 +43,18 @@ returns-2 c =
       told saidExtended (c .before .before .before .read-extended .ensures) (c .before .why .given .1),
     )
 
+enum-known-why-2 : tie.Need-enum-known-why-2
+enum-known-why-2 c = search needs
+
 returns-3 : tie.Need-returns-3
 returns-3 c =
     rw (
       told saidAddresses (c .before .before .before .before .before .before .before .read-addresses .ensures) (c .before .before .before .before .before .addresses .given .1),
       told saidUnicast (c .before .before .before .read-unicast .ensures) (c .before .why2 .given .1),
     )
+
+enum-known-why-3 : tie.Need-enum-known-why-3
+enum-known-why-3 c = search needs
 
 returns-4 : tie.Need-returns-4
 returns-4 c = rw (told saidAddresses (c .before .before .before .read-addresses .ensures) (c .before .why3 .given .1))
@@ -69,10 +69,10 @@ read-body-spec =
     enum-known-unicast
     read-extended-requires
     enum-known-extended
-    enum-known-why
-    enum-known-why-2
-    enum-known-why-3
     returns
+    enum-known-why
     returns-2
+    enum-known-why-2
     returns-3
+    enum-known-why-3
     returns-4)

@@ -25,15 +25,6 @@ channel-map-requires c κs = search needs
 enum-known-channel : tie.Need-enum-known-channel
 enum-known-channel c = search needs
 
-enum-known-why : tie.Need-enum-known-why
-enum-known-why c = search needs
-
-enum-known-why-2 : tie.Need-enum-known-why-2
-enum-known-why-2 c = search needs
-
-enum-known-why-3 : tie.Need-enum-known-why-3
-enum-known-why-3 c = search needs
-
 returns : tie.Need-returns
 returns c =
     rw (
@@ -41,6 +32,9 @@ returns c =
       told saidCountry (c .before .before .before .before .before .before .before .country-code .ensures) (c .before .before .before .before .before .country .given .1),
       told saidChannel (c .before .before .before .channel-map .ensures) (c .before .channel .given .1),
     )
+
+enum-known-why : tie.Need-enum-known-why
+enum-known-why c = search needs
 
 returns-2 : tie.Need-returns-2
 returns-2 c =
@@ -50,12 +44,18 @@ returns-2 c =
       told saidChannel (c .before .before .before .channel-map .ensures) (c .before .why .given .1),
     )
 
+enum-known-why-2 : tie.Need-enum-known-why-2
+enum-known-why-2 c = search needs
+
 returns-3 : tie.Need-returns-3
 returns-3 c =
     rw (
       told saidU16 (c .before .before .before .before .before .before .before .u16-at .ensures) (c .before .before .before .before .before .flags .given .1),
       told saidCountry (c .before .before .before .country-code .ensures) (c .before .why2 .given .1),
     )
+
+enum-known-why-3 : tie.Need-enum-known-why-3
+enum-known-why-3 c = search needs
 
 returns-4 : tie.Need-returns-4
 returns-4 c = rw (told saidU16 (c .before .before .before .u16-at .ensures) (c .before .why3 .given .1))
@@ -70,10 +70,10 @@ read-head-spec =
     enum-known-country
     channel-map-requires
     enum-known-channel
-    enum-known-why
-    enum-known-why-2
-    enum-known-why-3
     returns
+    enum-known-why
     returns-2
+    enum-known-why-2
     returns-3
+    enum-known-why-3
     returns-4)

@@ -24,15 +24,6 @@ u32-at-requires-3 c κs = search needs
 enum-known-pay-update-coutner : tie.Need-enum-known-pay-update-coutner
 enum-known-pay-update-coutner c = search needs
 
-enum-known-why : tie.Need-enum-known-why
-enum-known-why c = search needs
-
-enum-known-why-2 : tie.Need-enum-known-why-2
-enum-known-why-2 c = search needs
-
-enum-known-why-3 : tie.Need-enum-known-why-3
-enum-known-why-3 c = search needs
-
 returns : tie.Need-returns
 returns c =
     rw (
@@ -40,6 +31,9 @@ returns c =
       told saidU32 (c .before .before .before .before .before .before .before .u32-at2 .ensures) (c .before .before .before .before .before .aw-seq-counter .given .1),
       told saidU32 (c .before .before .before .u32-at3 .ensures) (c .before .pay-update-coutner .given .1),
     )
+
+enum-known-why : tie.Need-enum-known-why
+enum-known-why c = search needs
 
 returns-2 : tie.Need-returns-2
 returns-2 c =
@@ -49,12 +43,18 @@ returns-2 c =
       told saidU32 (c .before .before .before .u32-at3 .ensures) (c .before .why .given .1),
     )
 
+enum-known-why-2 : tie.Need-enum-known-why-2
+enum-known-why-2 c = search needs
+
 returns-3 : tie.Need-returns-3
 returns-3 c =
     rw (
       told saidU32 (c .before .before .before .before .before .before .before .u32-at .ensures) (c .before .before .before .before .before .msec-since-activation .given .1),
       told saidU32 (c .before .before .before .u32-at2 .ensures) (c .before .why2 .given .1),
     )
+
+enum-known-why-3 : tie.Need-enum-known-why-3
+enum-known-why-3 c = search needs
 
 returns-4 : tie.Need-returns-4
 returns-4 c = rw (told saidU32 (c .before .before .before .u32-at .ensures) (c .before .why3 .given .1))
@@ -69,10 +69,10 @@ three-words-spec =
     enum-known-aw-seq-counter
     u32-at-requires-3
     enum-known-pay-update-coutner
-    enum-known-why
-    enum-known-why-2
-    enum-known-why-3
     returns
+    enum-known-why
     returns-2
+    enum-known-why-2
     returns-3
+    enum-known-why-3
     returns-4)
