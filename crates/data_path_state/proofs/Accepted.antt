@@ -15,18 +15,19 @@ use Rattle.wire.specs.Words.{laid}
 use Rattle.wire.proofs.Gives.{Gives, gives-any, gives-give, gives-refuse, gives-bind, gives-when, gives-cond}
 use Rattle.wire.proofs.Tests.{joined, same-as}
 use Rattle.wire.proofs.Words.{laid-twice}
-use Rattle.data_path_state.specs.declared.misc.DataPathChannel.{DataPathChannel}
+use Rattle.data_path_fields.specs.declared.misc.DataPathChannel.{DataPathChannel}
 use Rattle.data_path_state.specs.declared.data_path_state_tlv.DataPathStateTLV.{DataPathStateTLV}
-use Rattle.data_path_state.specs.declared.data_path_state_tlv.OptionalAddress.{OptionalAddress}
-use Rattle.data_path_state.specs.declared.data_path_state_tlv.OptionalWord.{OptionalWord}
-use Rattle.data_path_state.specs.declared.read.Head.{Head}
-use Rattle.data_path_state.specs.declared.read.Addresses.{Addresses}
-use Rattle.data_path_state.specs.declared.read.Unicast.{Unicast}
-use Rattle.data_path_state.specs.declared.read.Extended.{Extended}
-use Rattle.data_path_state.specs.declared.read.Body.{Body}
-use Rattle.data_path_state.specs.Words.{extendedKept, optionsKept, channelOf}
-use Rattle.data_path_state.specs.DataPath.{noCountry, noChannel, head, noInfra, noAddress, oneAddress, addresses, noWord, oneWord, optionsAnd, noUnicast, unicast}
-use Rattle.data_path_state.specs.DataPath.{noTriggerId, triggerId, noStats, stats, noExtended, extendedOf, extended, body, whole, dataPath}
+use Rattle.data_path_fields.specs.declared.fields.OptionalAddress.{OptionalAddress}
+use Rattle.data_path_fields.specs.declared.fields.OptionalWord.{OptionalWord}
+use Rattle.data_path_fields.specs.declared.read.Head.{Head}
+use Rattle.data_path_fields.specs.declared.read.Addresses.{Addresses}
+use Rattle.data_path_fields.specs.declared.read.Unicast.{Unicast}
+use Rattle.data_path_fields.specs.declared.read.Extended.{Extended}
+use Rattle.data_path_fields.specs.declared.read.Body.{Body}
+use Rattle.data_path_fields.specs.Words.{extendedKept, optionsKept, channelOf}
+use Rattle.data_path_fields.specs.Fields.{noCountry, noChannel, head, noInfra, noAddress, oneAddress, addresses, noWord, oneWord, optionsAnd, noUnicast, unicast}
+use Rattle.data_path_fields.specs.Fields.{noTriggerId, triggerId, noStats, stats, noExtended, extendedOf, extended, body}
+use Rattle.data_path_state.specs.DataPath.{whole, dataPath}
 use Rattle.data_path_state.specs.Consistent.{isZeroAddress, isZeroChannel, isZeroStats, channelRight, flagsMatch, extendedMatch, onlyWith, wordsKept, absentZero, consistent}
 
 -- there exactly where the bit is set, and zero elsewhere

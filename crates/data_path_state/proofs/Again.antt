@@ -6,19 +6,20 @@ use mathlib.Core.Bool.{Bool, true, false, cond}
 use mathlib.Core.List.{List, [], _++_, append-assoc}
 use lib.Dec.{eqb}
 use Rattle.wire.specs.declared.refusal.Refusal.the-variants.{UnicastLength}
-use Rattle.wire.specs.Reading.{Reader, field, when}
+use Rattle.wire.specs.Reading.{Reader, field, give, when, _>>=_}
 use Rattle.wire.specs.Numbers.{number, littleBytes, bit}
 use Rattle.wire.specs.Addresses.{address}
 use Rattle.wire.specs.Words.{laid}
 use Rattle.wire.proofs.Again.{Again, again-give, again-refuse, again-bind, again-step, again-group, again-when, again-cond}
-use Rattle.data_path_state.specs.declared.misc.DataPathChannel.{DataPathChannel}
-use Rattle.data_path_state.specs.declared.read.Head.{Head}
-use Rattle.data_path_state.specs.declared.read.Addresses.{Addresses}
-use Rattle.data_path_state.specs.declared.read.Body.{Body}
-use Rattle.data_path_state.specs.declared.read.Unicast.{Unicast}
-use Rattle.data_path_state.specs.declared.read.Extended.{Extended}
-use Rattle.data_path_state.specs.Words.{extendedKept, channelOf, wordOf}
-use Rattle.data_path_state.specs.DataPath.{head, addresses, body, country, channelWord, infra, oneAddress, oneWord, optionsAnd, unicast, triggerId, stats, extendedOf, extended, dataPath}
+use Rattle.data_path_fields.specs.declared.misc.DataPathChannel.{DataPathChannel}
+use Rattle.data_path_fields.specs.declared.read.Head.{Head}
+use Rattle.data_path_fields.specs.declared.read.Addresses.{Addresses}
+use Rattle.data_path_fields.specs.declared.read.Body.{Body}
+use Rattle.data_path_fields.specs.declared.read.Unicast.{Unicast}
+use Rattle.data_path_fields.specs.declared.read.Extended.{Extended}
+use Rattle.data_path_fields.specs.Words.{extendedKept, channelOf, wordOf}
+use Rattle.data_path_fields.specs.Fields.{head, addresses, body, country, channelWord, infra, oneAddress, oneWord, optionsAnd, unicast, triggerId, stats, extendedOf, extended}
+use Rattle.data_path_state.specs.DataPath.{dataPath}
 use Rattle.data_path_state.specs.Bytes.{countryBytes, channelBytes, infraBytes, oneAddressBytes, wordBytes, triggerIdBytes, statsBytes, laidDown}
 use Rattle.data_path_state.specs.Rewritten.{countryAgain, channelAgain, infraAgain, addressAgain, wordAgain, oneAgain, twoAgain, unicastAgain, statsAgain, announcedAgain, extendedAgain, Front, headAgain, addressesAgain, bodyAgain, rewritten}
 
@@ -74,11 +75,17 @@ extendedOut x =
     (littleBytes 2 (x .flags .flags .0) ++ triggerIdBytes (x .trigger) ++ wordBytes (x .rlfc) ++ statsBytes (x .stats))
     []
 
+-- three readers in a row, each beside its own
+three : {A B C D X Y Z W : Type 0} {m : Reader A} {n : Reader B} {o : Reader C} {c : Reader X} {d : Reader Y} {e : Reader Z}
+    {f : A → X} {g : B → Y} {h : C → Z} (k : A → B → C → D) (l : X → Y → Z → W) {out : D → W}
+    → Again m c f → Again n d g → Again o e h → ((x : A) (y : B) (z : C) → out (k x y z) ≡ l (f x) (g y) (h z))
+    → Again (m >>= λ x. n >>= λ y. o >>= λ z. give (k x y z)) (c >>= λ x. d >>= λ y. e >>= λ z. give (l x y z)) out
+three k l p q r same = again-step _ p λ x. again-step _ q λ y. again-step _ r λ z. again-give (same x y z)
+
 announced-again : (word : ℕ) → Again (extendedOf word) (announcedAgain word) extendedOut
 announced-again word =
-    again-step _ (again-when (bit 0 word) trigger-again refl) λ trigger.
-    again-step _ (again-when (bit 2 word) word-again refl) λ rlfc.
-    again-step _ (again-when (bit 5 word) stats-again refl) λ stats. again-give refl
+    three _ _ (again-when (bit 0 word) trigger-again refl) (again-when (bit 2 word) word-again refl)
+    (again-when (bit 5 word) stats-again refl) λ trigger rlfc stats. refl
 
 extended-again : Again extended extendedAgain extendedOut
 extended-again = again-bind (number 2) λ word. announced-again (laid extendedKept word)
@@ -97,18 +104,16 @@ addressesOut a = infraBytes (a .bssid) ++ oneAddressBytes (a .infra) ++ oneAddre
 
 addresses-again : (flags : ℕ) → Again (addresses flags) (addressesAgain flags) addressesOut
 addresses-again flags =
-    again-step _ (again-when (bit 0 flags) infra-again refl) λ bssid.
-    again-step _ (again-when (bit 1 flags) address-again refl) λ infra.
-    again-step _ (again-when (bit 2 flags) address-again refl) λ awdl. again-give refl
+    three _ _ (again-when (bit 0 flags) infra-again refl) (again-when (bit 1 flags) address-again refl)
+    (again-when (bit 2 flags) address-again refl) λ bssid infra awdl. refl
 
 abbrev bodyOut : Body → List ℕ
 bodyOut b = addressesOut (b .addresses) ++ unicastOf (b .unicast) ++ extendedOut (b .extended)
 
 body-again : (flags : ℕ) → Again (body flags) (bodyAgain flags) bodyOut
 body-again flags =
-    again-step _ (addresses-again flags) λ addresses.
-    again-step _ (again-when (bit 12 flags) unicast-again refl) λ unicast.
-    again-step _ (again-when (bit 15 flags) extended-again refl) λ extended. again-give refl
+    three _ _ (addresses-again flags) (again-when (bit 12 flags) unicast-again refl)
+    (again-when (bit 15 flags) extended-again refl) λ addresses unicast extended. refl
 
 pub written-again : Again dataPath rewritten laidDown
 unfolding laidDown

@@ -2,7 +2,7 @@
 -- Assumes nothing.
 use Prim.Native.Nat.{ℕ, suc, _+_, _*_, _/_, _%_, _^_, _<_}
 use Rattle.wire.proofs.Tests.{row, nth, same}
-use Rattle.wire.proofs.Words.{widthOf, bit-laid, Agrees, laid-same}
+use Rattle.wire.proofs.Words.{widthOf, bit-small, bit-laid, Agrees, laid-same}
 use Rattle.wire.specs.Numbers.{bit, bits}
 use Rattle.wire.specs.Words.{Run, keep, clear, put, laid}
 use borrow.Author.Tests.{eqb-true, eqb-false}
@@ -41,10 +41,6 @@ Spare k (put b ∷ rest) w = Spare (k + 1) rest w
 -- what stands above the first run of a word
 above : (n k w x : ℕ) {y : ℕ} → y < 2 ^ n → w / 2 ^ k ≡ x * 2 ^ n + y → w / 2 ^ (k + n) ≡ x
 above n k w x h e = sym (shr-shr w k n) ∙ ap (λ (q : ℕ). q / 2 ^ n) e ∙ high x n h
-
-bit-small : (b : Bool) → cond b 1 0 < 2 ^ 1
-bit-small true = omega arith
-bit-small false = omega arith
 
 spare-from : (k : ℕ) (runs : List Run) (w v : ℕ) → w / 2 ^ k ≡ laid runs v → Spare k runs w
 spare-from k [] w v e = e

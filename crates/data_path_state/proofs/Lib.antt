@@ -1,4 +1,5 @@
 pub mod Bits
+pub mod Puts
 pub mod Right
 pub mod Sizes
 pub mod Ranges

@@ -8,9 +8,9 @@ use Rattle.data_path_state.proofs.Optional as O
 use Rattle.data_path_state.specs.Bytes.{counted, sum}
 use Rattle.data_path_state.specs.Consistent.{flagsMatch, extendedMatch, onlyWith, channelRight, wordsKept, absentZero, consistent}
 use Rattle.data_path_state.specs.Mended.{mended, hasOptions, hasExtended, extendedRuns, flagsRuns}
-use Rattle.data_path_state.specs.Words.{extendedKept, optionsKept}
+use Rattle.data_path_fields.specs.Words.{extendedKept, optionsKept}
 use Rattle.data_path_state.specs.declared.data_path_state_tlv.DataPathStateTLV.{DataPathStateTLV}
-use Rattle.data_path_state.specs.declared.data_path_state_tlv.OptionalChannel.{OptionalChannel}
+use Rattle.data_path_fields.specs.declared.fields.OptionalChannel.{OptionalChannel}
 use Rattle.wire.proofs.Words.{laid-twice}
 use Rattle.wire.specs.Words.{laid}
 use borrow.Author.Tests.{eqb-true, eq-eqb}

@@ -3,16 +3,16 @@
 use Rattle.wire.proofs.Tests.{other}
 use Rattle.data_path_state.proofs.Facts.{each-zero}
 use Rattle.data_path_state.specs.Consistent.{isZeroAddress, isZeroChannel, isZeroStats}
-use Rattle.data_path_state.specs.DataPath.{noCountry, noChannel, noInfra, noAddress, noWord, noTriggerId, noStats}
-use Rattle.data_path_state.specs.declared.data_path_state_tlv.CountryCode.{CountryCode}
-use Rattle.data_path_state.specs.declared.data_path_state_tlv.InfraBssidChannel.{InfraBssidChannel}
-use Rattle.data_path_state.specs.declared.data_path_state_tlv.OptionalAddress.{OptionalAddress}
-use Rattle.data_path_state.specs.declared.data_path_state_tlv.OptionalChannel.{OptionalChannel}
-use Rattle.data_path_state.specs.declared.data_path_state_tlv.OptionalStats.{OptionalStats}
-use Rattle.data_path_state.specs.declared.data_path_state_tlv.OptionalTriggerId.{OptionalTriggerId}
-use Rattle.data_path_state.specs.declared.data_path_state_tlv.OptionalWord.{OptionalWord}
-use Rattle.data_path_state.specs.declared.misc.DataPathChannel.{DataPathChannel}
-use Rattle.data_path_state.specs.declared.misc.DataPathStats.{DataPathStats}
+use Rattle.data_path_fields.specs.Fields.{noCountry, noChannel, noInfra, noAddress, noWord, noTriggerId, noStats}
+use Rattle.data_path_fields.specs.declared.fields.CountryCode.{CountryCode}
+use Rattle.data_path_fields.specs.declared.fields.InfraBssidChannel.{InfraBssidChannel}
+use Rattle.data_path_fields.specs.declared.fields.OptionalAddress.{OptionalAddress}
+use Rattle.data_path_fields.specs.declared.fields.OptionalChannel.{OptionalChannel}
+use Rattle.data_path_fields.specs.declared.fields.OptionalStats.{OptionalStats}
+use Rattle.data_path_fields.specs.declared.fields.OptionalTriggerId.{OptionalTriggerId}
+use Rattle.data_path_fields.specs.declared.fields.OptionalWord.{OptionalWord}
+use Rattle.data_path_fields.specs.declared.misc.DataPathChannel.{DataPathChannel}
+use Rattle.data_path_fields.specs.declared.misc.DataPathStats.{DataPathStats}
 use Rattle.wire.specs.Addresses.{zeroAddress, addressBytes}
 use Rattle.wire.specs.declared.read.MACAddress.{MACAddress}
 use borrow.Author.Tests.{eqb-true}

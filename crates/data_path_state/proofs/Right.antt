@@ -9,7 +9,7 @@ use Rattle.wire.specs.Numbers.{bit}
 use Rattle.wire.proofs.Tests.{same, other, each}
 use Rattle.data_path_state.proofs.Optional as O
 use Rattle.data_path_state.specs.declared.data_path_state_tlv.DataPathStateTLV.{DataPathStateTLV}
-use Rattle.data_path_state.specs.DataPath.{noCountry, noChannel, noInfra, noAddress, noOptions, noWord, noExtendedFlags, noTriggerId, noStats}
+use Rattle.data_path_fields.specs.Fields.{noCountry, noChannel, noInfra, noAddress, noOptions, noWord, noExtendedFlags, noTriggerId, noStats}
 use Rattle.data_path_state.specs.Consistent.{flagsMatch, extendedMatch, onlyWith, channelRight, wordsKept, absentZero, consistent}
 use Rattle.data_path_state.specs.Consistent.{isZeroAddress, isZeroChannel, isZeroStats}
 

@@ -18,24 +18,25 @@ use Rattle.wire.specs.Words.{laid}
 use Rattle.wire.specs.Writing.{within, lengthOf, afterwards}
 use Rattle.wire.proofs.Tests.{both, each, implied}
 use Rattle.wire.proofs.ReadsBack.{Back, give-back, bind-back, made-back, field-back, when-back, number-back, address-back}
-use Rattle.data_path_state.specs.declared.misc.DataPathChannel.{DataPathChannel}
-use Rattle.data_path_state.specs.declared.data_path_state_tlv.CountryCode.{CountryCode}
-use Rattle.data_path_state.specs.declared.data_path_state_tlv.OptionalChannel.{OptionalChannel}
-use Rattle.data_path_state.specs.declared.data_path_state_tlv.InfraBssidChannel.{InfraBssidChannel}
-use Rattle.data_path_state.specs.declared.data_path_state_tlv.OptionalAddress.{OptionalAddress}
-use Rattle.data_path_state.specs.declared.data_path_state_tlv.OptionalOptions.{OptionalOptions}
-use Rattle.data_path_state.specs.declared.data_path_state_tlv.OptionalWord.{OptionalWord}
-use Rattle.data_path_state.specs.declared.data_path_state_tlv.OptionalTriggerId.{OptionalTriggerId}
-use Rattle.data_path_state.specs.declared.data_path_state_tlv.OptionalStats.{OptionalStats}
+use Rattle.data_path_fields.specs.declared.misc.DataPathChannel.{DataPathChannel}
+use Rattle.data_path_fields.specs.declared.fields.CountryCode.{CountryCode}
+use Rattle.data_path_fields.specs.declared.fields.OptionalChannel.{OptionalChannel}
+use Rattle.data_path_fields.specs.declared.fields.InfraBssidChannel.{InfraBssidChannel}
+use Rattle.data_path_fields.specs.declared.fields.OptionalAddress.{OptionalAddress}
+use Rattle.data_path_fields.specs.declared.fields.OptionalOptions.{OptionalOptions}
+use Rattle.data_path_fields.specs.declared.fields.OptionalWord.{OptionalWord}
+use Rattle.data_path_fields.specs.declared.fields.OptionalTriggerId.{OptionalTriggerId}
+use Rattle.data_path_fields.specs.declared.fields.OptionalStats.{OptionalStats}
 use Rattle.data_path_state.specs.declared.data_path_state_tlv.DataPathStateTLV.{DataPathStateTLV}
-use Rattle.data_path_state.specs.declared.read.Head.{Head}
-use Rattle.data_path_state.specs.declared.read.Addresses.{Addresses}
-use Rattle.data_path_state.specs.declared.read.Unicast.{Unicast}
-use Rattle.data_path_state.specs.declared.read.Extended.{Extended}
-use Rattle.data_path_state.specs.declared.read.Body.{Body}
-use Rattle.data_path_state.specs.Words.{extendedKept, optionsKept, channelOf, wordOf}
-use Rattle.data_path_state.specs.DataPath.{noCountry, country, noChannel, channelWord, head, noInfra, infra, noAddress, oneAddress, addresses}
-use Rattle.data_path_state.specs.DataPath.{noWord, oneWord, someOptions, optionsAnd, optionsOf, noUnicast, unicast, noTriggerId, triggerId, noStats, stats, noExtended, extendedOf, extended, body, whole, dataPath}
+use Rattle.data_path_fields.specs.declared.read.Head.{Head}
+use Rattle.data_path_fields.specs.declared.read.Addresses.{Addresses}
+use Rattle.data_path_fields.specs.declared.read.Unicast.{Unicast}
+use Rattle.data_path_fields.specs.declared.read.Extended.{Extended}
+use Rattle.data_path_fields.specs.declared.read.Body.{Body}
+use Rattle.data_path_fields.specs.Words.{extendedKept, optionsKept, channelOf, wordOf}
+use Rattle.data_path_fields.specs.Fields.{noCountry, country, noChannel, channelWord, head, noInfra, infra, noAddress, oneAddress, addresses}
+use Rattle.data_path_fields.specs.Fields.{noWord, oneWord, someOptions, optionsAnd, optionsOf, noUnicast, unicast, noTriggerId, triggerId, noStats, stats, noExtended, extendedOf, extended, body}
+use Rattle.data_path_state.specs.DataPath.{whole, dataPath}
 use Rattle.data_path_state.specs.Consistent.{channelRight, consistent}
 use Rattle.data_path_state.specs.Bytes.{countryBytes, channelBytes, infraBytes, oneAddressBytes, wordBytes, triggerIdBytes, threeWords, statsBytes}
 use Rattle.data_path_state.specs.Bytes.{headBytes, addressesBytes, unicastBytes, extendedBytes, laidDown, bytesOf, sizeOf}

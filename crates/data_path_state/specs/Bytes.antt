@@ -6,16 +6,16 @@ use Rattle.wire.specs.declared.refusal.Refusal.the-variants.{Inconsistent}
 use Rattle.wire.specs.Answer.{Answer, answer, require, _>>_}
 use Rattle.wire.specs.Numbers.{littleBytes}
 use Rattle.wire.specs.Addresses.{addressBytes}
-use Rattle.data_path_state.specs.declared.misc.DataPathStats.{DataPathStats}
-use Rattle.data_path_state.specs.declared.data_path_state_tlv.CountryCode.{CountryCode}
-use Rattle.data_path_state.specs.declared.data_path_state_tlv.OptionalChannel.{OptionalChannel}
-use Rattle.data_path_state.specs.declared.data_path_state_tlv.InfraBssidChannel.{InfraBssidChannel}
-use Rattle.data_path_state.specs.declared.data_path_state_tlv.OptionalAddress.{OptionalAddress}
-use Rattle.data_path_state.specs.declared.data_path_state_tlv.OptionalWord.{OptionalWord}
-use Rattle.data_path_state.specs.declared.data_path_state_tlv.OptionalTriggerId.{OptionalTriggerId}
-use Rattle.data_path_state.specs.declared.data_path_state_tlv.OptionalStats.{OptionalStats}
+use Rattle.data_path_fields.specs.declared.misc.DataPathStats.{DataPathStats}
+use Rattle.data_path_fields.specs.declared.fields.CountryCode.{CountryCode}
+use Rattle.data_path_fields.specs.declared.fields.OptionalChannel.{OptionalChannel}
+use Rattle.data_path_fields.specs.declared.fields.InfraBssidChannel.{InfraBssidChannel}
+use Rattle.data_path_fields.specs.declared.fields.OptionalAddress.{OptionalAddress}
+use Rattle.data_path_fields.specs.declared.fields.OptionalWord.{OptionalWord}
+use Rattle.data_path_fields.specs.declared.fields.OptionalTriggerId.{OptionalTriggerId}
+use Rattle.data_path_fields.specs.declared.fields.OptionalStats.{OptionalStats}
 use Rattle.data_path_state.specs.declared.data_path_state_tlv.DataPathStateTLV.{DataPathStateTLV}
-use Rattle.data_path_state.specs.Words.{wordOf}
+use Rattle.data_path_fields.specs.Words.{wordOf}
 use Rattle.data_path_state.specs.Consistent.{consistent}
 
 -- the pad byte is 0

@@ -1,7 +1,6 @@
--- Words: kept bits and the channel word; DataPath: how a record is read; Consistent: when it can be written; Bytes: its
--- size and its bytes; Mended: what mending makes of it; Rewritten: what of a value comes back; Said and Outcomes: what each answer of the code says, and the
--- number and values that it stands for.
-pub mod Words
+-- DataPath: how a record is read; Consistent: when it can be written; Bytes: its size and its bytes; Mended: what mending
+-- makes of it; Rewritten: what of a value comes back; Said and Outcomes: what the reader's answer says, and the number
+-- and values that it stands for.
 pub mod DataPath
 pub mod Consistent
 pub mod Bytes

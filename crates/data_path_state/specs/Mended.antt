@@ -3,12 +3,12 @@
 use mathlib.Core.Bool.{Bool, cond, _||_}
 use mathlib.Core.List.{List, [], _∷_}
 use Rattle.wire.specs.Words.{Run, keep, clear, put, laid}
-use Rattle.data_path_state.specs.declared.data_path_state_tlv.DataPathFlags.{DataPathFlags}
+use Rattle.data_path_fields.specs.declared.fields.DataPathFlags.{DataPathFlags}
 use Rattle.data_path_state.specs.declared.data_path_state_tlv.DataPathStateTLV.{DataPathStateTLV}
-use Rattle.data_path_state.specs.declared.data_path_state_tlv.OptionalOptions.{OptionalOptions}
-use Rattle.data_path_state.specs.declared.data_path_state_tlv.OptionalExtendedFlags.{OptionalExtendedFlags}
-use Rattle.data_path_state.specs.Words.{optionsKept}
-use Rattle.data_path_state.specs.DataPath.{noCountry, noChannel, noInfra, noAddress, noWord, noTriggerId, noStats}
+use Rattle.data_path_fields.specs.declared.fields.OptionalOptions.{OptionalOptions}
+use Rattle.data_path_fields.specs.declared.fields.OptionalExtendedFlags.{OptionalExtendedFlags}
+use Rattle.data_path_fields.specs.Words.{optionsKept}
+use Rattle.data_path_fields.specs.Fields.{noCountry, noChannel, noInfra, noAddress, noWord, noTriggerId, noStats}
 
 -- options 0 are added under a lone second word
 abbrev pub hasOptions : DataPathStateTLV → Bool

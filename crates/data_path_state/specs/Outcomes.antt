@@ -2,7 +2,7 @@
 use Rattle.wire.specs.Outcomes.{Outcome, outcome}
 use Rattle.data_path_state.specs.declared.data_path_state_tlv.DataPathStateTLV.{DataPathStateTLV}
 use Rattle.data_path_state.specs.declared.data_path_state_tlv.ReadDataPathState.{ReadDataPathState}
-use Rattle.data_path_state.specs.DataPath.{noCountry, noChannel, noInfra, noAddress, noOptions, noWord, noExtendedFlags, noTriggerId, noStats}
+use Rattle.data_path_fields.specs.Fields.{noCountry, noChannel, noInfra, noAddress, noOptions, noWord, noExtendedFlags, noTriggerId, noStats}
 use Rattle.data_path_state.specs.Said.{saidDataPath}
 
 abbrev pub zeroDataPath : DataPathStateTLV

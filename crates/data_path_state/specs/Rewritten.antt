@@ -10,7 +10,7 @@ use Rattle.wire.specs.Reading.{Reader, field, give, refuse, when, _>>=_}
 use Rattle.wire.specs.Numbers.{number, littleBytes, bit}
 use Rattle.wire.specs.Addresses.{address, addressBytes}
 use Rattle.wire.specs.Words.{laid}
-use Rattle.data_path_state.specs.Words.{extendedKept, optionsKept}
+use Rattle.data_path_fields.specs.Words.{extendedKept, optionsKept}
 
 -- the pad byte is 0
 abbrev pub countryAgain : Reader (List ℕ)

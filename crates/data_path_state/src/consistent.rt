@@ -1,12 +1,12 @@
 ghost use mathlib.Core.Path.{_≡_};
 ghost use Rattle.data_path_state.specs.Consistent as C;
-use crate::data_path_state_tlv::DataPathExtendedFlags;
-use crate::data_path_state_tlv::DataPathFlags;
 use crate::data_path_state_tlv::DataPathStateTLV;
-use crate::misc::ChannelMap;
-use crate::misc::DataPathChannel;
-use crate::misc::DataPathStats;
-use crate::misc::UnicastOptions;
+use data_path_fields::ChannelMap;
+use data_path_fields::DataPathChannel;
+use data_path_fields::DataPathExtendedFlags;
+use data_path_fields::DataPathFlags;
+use data_path_fields::DataPathStats;
+use data_path_fields::UnicastOptions;
 use wire::MACAddress;
 
 // The tests below have no branches: each is a formula, as its definition is.
@@ -83,24 +83,20 @@ fn is_zero_stats(s: DataPathStats) -> bool
 fn absent_zero(r: DataPathStateTLV) -> bool
     ensures { λ t. ⌜ t ≡ C.absentZero r ⌝ }
 {
-    let country = r.country_code;
     let word = r.channel_map;
     let channel = word.channel;
-    let bssid = r.infra_bssid_channel;
-    let infra = r.infra_address;
-    let awdl = r.awdl_address;
-    let stats = r.stats;
-    (country.present | ((country.first == 0) & (country.second == 0)))
+    (r.country_code.present | ((r.country_code.first == 0) & (r.country_code.second == 0)))
         & (word.present | is_zero_channel(channel))
-        & (bssid.present | (is_zero_address(bssid.bssid) & (bssid.channel == 0)))
-        & (infra.present | is_zero_address(infra.address))
-        & (awdl.present | is_zero_address(awdl.address))
+        & (r.infra_bssid_channel.present
+            | (is_zero_address(r.infra_bssid_channel.bssid) & (r.infra_bssid_channel.channel == 0)))
+        & (r.infra_address.present | is_zero_address(r.infra_address.address))
+        & (r.awdl_address.present | is_zero_address(r.awdl_address.address))
         & (r.unicast_options.present | (r.unicast_options.options.0 == 0))
         & (r.unicast_options_ext.present | (r.unicast_options_ext.word == 0))
         & (r.extended_flags.present | (r.extended_flags.flags.0 == 0))
         & (r.rlfc.present | (r.rlfc.word == 0))
         & (r.log_trigger_id.present | (r.log_trigger_id.id == 0))
-        & (stats.present | is_zero_stats(stats.stats))
+        & (r.stats.present | is_zero_stats(r.stats.stats))
 }
 
 pub(crate) fn is_consistent(r: DataPathStateTLV) -> bool

@@ -1,23 +1,23 @@
 ghost use mathlib.Core.Path.{_≡_};
 ghost use mathlib.Core.Bool.{cond};
 ghost use Prim.Native.Nat.{_≤_};
-ghost use Rattle.data_path_state.specs.DataPath.{noCountry, noChannel, noInfra, noAddress, noWord, noTriggerId, noStats};
+ghost use Rattle.data_path_fields.specs.Fields.{noCountry, noChannel, noInfra, noAddress, noWord, noTriggerId, noStats};
 ghost use Rattle.data_path_state.specs.Mended as M;
-use crate::data_path_state_tlv::CountryCode;
-use crate::data_path_state_tlv::DataPathExtendedFlags;
-use crate::data_path_state_tlv::DataPathFlags;
 use crate::data_path_state_tlv::DataPathStateTLV;
-use crate::data_path_state_tlv::InfraBssidChannel;
-use crate::data_path_state_tlv::OptionalAddress;
-use crate::data_path_state_tlv::OptionalChannel;
-use crate::data_path_state_tlv::OptionalExtendedFlags;
-use crate::data_path_state_tlv::OptionalOptions;
-use crate::data_path_state_tlv::OptionalStats;
-use crate::data_path_state_tlv::OptionalTriggerId;
-use crate::data_path_state_tlv::OptionalWord;
-use crate::misc::DataPathChannel;
-use crate::misc::DataPathStats;
-use crate::misc::UnicastOptions;
+use data_path_fields::CountryCode;
+use data_path_fields::DataPathChannel;
+use data_path_fields::DataPathExtendedFlags;
+use data_path_fields::DataPathFlags;
+use data_path_fields::DataPathStats;
+use data_path_fields::InfraBssidChannel;
+use data_path_fields::OptionalAddress;
+use data_path_fields::OptionalChannel;
+use data_path_fields::OptionalExtendedFlags;
+use data_path_fields::OptionalOptions;
+use data_path_fields::OptionalStats;
+use data_path_fields::OptionalTriggerId;
+use data_path_fields::OptionalWord;
+use data_path_fields::UnicastOptions;
 use wire::MACAddress;
 
 // The bits of the flags that announce no field, and those of the extended word that have a name and announce none.

@@ -4,14 +4,14 @@ ghost use Prim.Native.Nat.{_+_, _≤_};
 ghost use lib.ListN.{length};
 ghost use Rattle.wire.specs.Writing.{Put};
 ghost use Rattle.data_path_state.specs.Bytes as B;
-use crate::data_path_state_tlv::CountryCode;
 use crate::data_path_state_tlv::DataPathStateTLV;
-use crate::data_path_state_tlv::InfraBssidChannel;
-use crate::data_path_state_tlv::OptionalAddress;
-use crate::data_path_state_tlv::OptionalChannel;
-use crate::data_path_state_tlv::OptionalStats;
-use crate::data_path_state_tlv::OptionalTriggerId;
-use crate::data_path_state_tlv::OptionalWord;
+use data_path_fields::CountryCode;
+use data_path_fields::InfraBssidChannel;
+use data_path_fields::OptionalAddress;
+use data_path_fields::OptionalChannel;
+use data_path_fields::OptionalStats;
+use data_path_fields::OptionalTriggerId;
+use data_path_fields::OptionalWord;
 
 // How much a field adds to the size.
 fn counted(present: bool, n: usize) -> usize

@@ -41,7 +41,7 @@ laid-mask (put b ∷ rest) w =
       and-zero-r (w % 2),
     ) (omega arith)
 
-bit-small : (b : Bool) → cond b 1 0 < 2 ^ 1
+pub bit-small : (b : Bool) → cond b 1 0 < 2 ^ 1
 bit-small true = omega arith
 bit-small false = omega arith
 

@@ -5,7 +5,7 @@ use Rattle.data_path_state.proofs.Bits.{valued}
 use Rattle.data_path_state.proofs.mend.mend_extended.Statement.{statement}
 use Rattle.data_path_state.proofs.mend.mend_extended.Tie as tie
 use Rattle.data_path_state.specs.Mended.{extendedRuns, hasExtended}
-use Rattle.data_path_state.specs.declared.data_path_state_tlv.OptionalExtendedFlags.{OptionalExtendedFlags}
+use Rattle.data_path_fields.specs.declared.fields.OptionalExtendedFlags.{OptionalExtendedFlags}
 use Rattle.wire.proofs.Words.{laid-mask}
 use borrow.Author.Needs.{needs}
 use lib.Bits.{and-le-r}

@@ -1,12 +1,12 @@
 -- `put_country` meets its contract: the field is put where it is there, and nothing where it is not.
 -- Assumes nothing.
+use Rattle.data_path_state.proofs.Puts.{put-none}
 use Rattle.data_path_state.proofs.write.put_country.Statement.{statement}
 use Rattle.data_path_state.proofs.write.put_country.Tie as tie
-use Rattle.wire.proofs.Stores.{put-both, put-empty, room-first}
+use Rattle.wire.proofs.Stores.{put-both, room-first}
 use Rattle.wire.specs.Numbers.{littleBytes}
 use borrow.Author.Needs.{needs}
 use mathlib.Core.List.{_++_}
-use native.Mathlib.Omega.{arith}
 
 put-u8-requires : tie.Need-put-u8-requires
 put-u8-requires c κs = tt
@@ -27,9 +27,7 @@ returns c =
     rw (c .before .before .before .before .before .before .before .before .before .before .before .before .if1 .taken) (put-both (put-both (c .before .before .before .before .before .before .before .before .before .before .put-u8 .ensures) (c .before .before .before .before .before .before .put-u82 .ensures) (room-first (a .at) (littleBytes 1 (a .c .first) ++ littleBytes 1 (a .c .second)) (littleBytes 1 0) pre)) (c .before .before .put-u83 .ensures) pre)
 
 returns-2 : tie.Need-returns-2
-returns-2 c =
-    let pre = rw (c .if1 .left) at (c .before .before .pre) in
-    rw (c .if1 .left) (put-empty (c .before .before .args .buf .now) (c .before .before .args .at) (omega arith))
+returns-2 c = put-none (rw (c .if1 .left)) (c .before .before .pre)
 
 pub put-country-spec : {M : Type 1} → statement M
 put-country-spec =

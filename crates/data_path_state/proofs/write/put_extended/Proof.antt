@@ -1,13 +1,13 @@
 -- `put_extended` meets its contract: one run is put behind the other, and the room of all is room for each.
 -- Assumes nothing.
+use Rattle.data_path_state.proofs.Puts.{put-none}
 use Rattle.data_path_state.proofs.write.put_extended.Statement.{statement}
 use Rattle.data_path_state.proofs.write.put_extended.Tie as tie
 use Rattle.data_path_state.specs.Bytes.{triggerIdBytes, wordBytes, statsBytes}
-use Rattle.wire.proofs.Stores.{put-both, put-empty, room-first, room-second}
+use Rattle.wire.proofs.Stores.{put-both, room-first, room-second}
 use Rattle.wire.specs.Numbers.{littleBytes}
 use borrow.Author.Needs.{needs}
 use mathlib.Core.List.{_++_}
-use native.Mathlib.Omega.{arith}
 
 put-u16-requires : tie.Need-put-u16-requires
 put-u16-requires c κs = tt
@@ -40,9 +40,7 @@ returns c =
     rw (c .before .before .before .before .before .before .before .before .before .before .before .before .before .before .before .before .if1 .taken) (put-both (put-both (put-both (c .before .before .before .before .before .before .before .before .before .before .before .before .before .before .put-u16 .ensures) (c .before .before .before .before .before .before .before .before .before .before .put-trigger-id .ensures) (room-first (a .at) (littleBytes 2 (a .r .«extended_flags» .flags .0) ++ triggerIdBytes (a .r .«log_trigger_id»)) (wordBytes (a .r .rlfc)) (room-first (a .at) (littleBytes 2 (a .r .«extended_flags» .flags .0) ++ triggerIdBytes (a .r .«log_trigger_id») ++ wordBytes (a .r .rlfc)) (statsBytes (a .r .stats)) pre))) (c .before .before .before .before .before .before .put-word .ensures) (room-first (a .at) (littleBytes 2 (a .r .«extended_flags» .flags .0) ++ triggerIdBytes (a .r .«log_trigger_id») ++ wordBytes (a .r .rlfc)) (statsBytes (a .r .stats)) pre)) (c .before .before .put-stats .ensures) pre)
 
 returns-2 : tie.Need-returns-2
-returns-2 c =
-    let pre = rw (c .if1 .left) at (c .before .before .pre) in
-    rw (c .if1 .left) (put-empty (c .before .before .args .buf .now) (c .before .before .args .at) (omega arith))
+returns-2 c = put-none (rw (c .if1 .left)) (c .before .before .pre)
 
 pub put-extended-spec : {M : Type 1} → statement M
 put-extended-spec =

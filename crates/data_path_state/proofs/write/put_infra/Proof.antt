@@ -1,13 +1,13 @@
 -- `put_infra` meets its contract: the field is put where it is there, and nothing where it is not.
 -- Assumes nothing.
+use Rattle.data_path_state.proofs.Puts.{put-none}
 use Rattle.data_path_state.proofs.write.put_infra.Statement.{statement}
 use Rattle.data_path_state.proofs.write.put_infra.Tie as tie
-use Rattle.wire.proofs.Stores.{put-both, put-empty, room-first}
+use Rattle.wire.proofs.Stores.{put-both, room-first}
 use Rattle.wire.specs.Addresses.{addressBytes}
 use Rattle.wire.specs.Numbers.{littleBytes}
 use borrow.Author.Needs.{needs}
 use mathlib.Core.List.{_++_}
-use native.Mathlib.Omega.{arith}
 
 put-address-requires : tie.Need-put-address-requires
 put-address-requires c κs = tt
@@ -25,9 +25,7 @@ returns c =
     rw (c .before .before .before .before .before .before .before .before .if1 .taken) (put-both (c .before .before .before .before .before .before .put-address .ensures) (c .before .before .put-u16 .ensures) pre)
 
 returns-2 : tie.Need-returns-2
-returns-2 c =
-    let pre = rw (c .if1 .left) at (c .before .before .pre) in
-    rw (c .if1 .left) (put-empty (c .before .before .args .buf .now) (c .before .before .args .at) (omega arith))
+returns-2 c = put-none (rw (c .if1 .left)) (c .before .before .pre)
 
 pub put-infra-spec : {M : Type 1} → statement M
 put-infra-spec =

@@ -1,10 +1,9 @@
 -- `put_word` meets its contract: the field is put where it is there, and nothing where it is not.
 -- Assumes nothing.
+use Rattle.data_path_state.proofs.Puts.{put-none}
 use Rattle.data_path_state.proofs.write.put_word.Statement.{statement}
 use Rattle.data_path_state.proofs.write.put_word.Tie as tie
-use Rattle.wire.proofs.Stores.{put-empty}
 use borrow.Author.Needs.{needs}
-use native.Mathlib.Omega.{arith}
 
 put-u32-requires : tie.Need-put-u32-requires
 put-u32-requires c κs = tt
@@ -16,9 +15,7 @@ returns : tie.Need-returns
 returns c = rw (c .before .before .before .before .if1 .taken) (c .before .before .put-u32 .ensures)
 
 returns-2 : tie.Need-returns-2
-returns-2 c =
-    let pre = rw (c .if1 .left) at (c .before .before .pre) in
-    rw (c .if1 .left) (put-empty (c .before .before .args .buf .now) (c .before .before .args .at) (omega arith))
+returns-2 c = put-none (rw (c .if1 .left)) (c .before .before .pre)
 
 pub put-word-spec : {M : Type 1} → statement M
 put-word-spec = tie.close (tie.spec put-u32-requires same-length returns returns-2)

@@ -2,7 +2,7 @@
 -- Assumes nothing.
 use Rattle.data_path_state.proofs.data_path_state_tlv.DataPathStateTLV.read.Statement.{statement}
 use Rattle.data_path_state.proofs.data_path_state_tlv.DataPathStateTLV.read.Tie as tie
-use Rattle.data_path_state.specs.Said.{saidBody, saidHead}
+use Rattle.data_path_fields.specs.Said.{saidBody, saidHead}
 use Rattle.wire.proofs.Once.{told}
 use borrow.Author.Needs.{needs}
 
@@ -21,12 +21,6 @@ enum-known-body c = search needs
 whole-requires : tie.Need-whole-requires
 whole-requires c κs = search needs
 
-enum-known-why : tie.Need-enum-known-why
-enum-known-why c = search needs
-
-enum-known-why-2 : tie.Need-enum-known-why-2
-enum-known-why-2 c = search needs
-
 returns : tie.Need-returns
 returns c =
     rw (
@@ -35,12 +29,18 @@ returns c =
       c .whole .ensures,
     )
 
+enum-known-why : tie.Need-enum-known-why
+enum-known-why c = search needs
+
 returns-2 : tie.Need-returns-2
 returns-2 c =
     rw (
       told saidHead (c .before .before .before .before .before .before .before .read-head .ensures) (c .before .before .before .before .before .head .given .1),
       told saidBody (c .before .before .before .read-body .ensures) (c .before .why .given .1),
     )
+
+enum-known-why-2 : tie.Need-enum-known-why-2
+enum-known-why-2 c = search needs
 
 returns-3 : tie.Need-returns-3
 returns-3 c = rw (told saidHead (c .before .before .before .read-head .ensures) (c .before .why2 .given .1))
@@ -54,8 +54,8 @@ read-spec =
     read-body-requires
     enum-known-body
     whole-requires
-    enum-known-why
-    enum-known-why-2
     returns
+    enum-known-why
     returns-2
+    enum-known-why-2
     returns-3)

@@ -1,0 +1,133 @@
+ghost use mathlib.Core.Path.{_≡_};
+ghost use Rattle.wire.specs.Words.{laid};
+ghost use Rattle.data_path_fields.specs.Words.{extendedKept};
+use crate::misc::DataPathChannel;
+use crate::misc::DataPathStats;
+use crate::misc::UnicastOptions;
+use wire::MACAddress;
+
+pub struct DataPathFlags(pub u16);
+
+impl DataPathFlags {
+    pub const INFRA_BSSID_CHANNEL_PRESENT: u16 = 0x0001;
+
+    pub const INFRA_ADDRESS_PRESENT: u16 = 0x0002;
+
+    pub const AWDL_ADDRESS_PRESENT: u16 = 0x0004;
+
+    pub const RSDB_SUPPORT: u16 = 0x0008;
+
+    pub const IS_UMI: u16 = 0x0010;
+
+    pub const DUALBAND_SUPPORT: u16 = 0x0020;
+
+    pub const AIRPLAY_SINK: u16 = 0x0040;
+
+    pub const FOLLOW_CHANNEL_SEQUENCE: u16 = 0x0080;
+
+    pub const COUNTRY_CODE_PRESENT: u16 = 0x0100;
+
+    pub const CHANNEL_MAP_PRESENT: u16 = 0x0200;
+
+    pub const AIRPLAY_SOLO_MODE_SUPPORT: u16 = 0x0400;
+
+    pub const UMI_SUPPORT: u16 = 0x0800;
+
+    pub const UNICAST_OPTIONS_PRESENT: u16 = 0x1000;
+
+    pub const IS_REALTIME: u16 = 0x2000;
+
+    pub const RANGEABLE: u16 = 0x4000;
+
+    pub const EXTENDED_FLAGS: u16 = 0x8000;
+
+    pub const KEEP: u16 = 0xFFFF;
+}
+
+pub struct DataPathExtendedFlags(pub u16);
+
+impl DataPathExtendedFlags {
+    pub const LOG_TRIGGER_ID_PRESENT: u16 = 0x0001;
+
+    pub const RANGING_DISCOVERY_SUPPORTED: u16 = 0x0002;
+
+    pub const RLFC_PRESENT: u16 = 0x0004;
+
+    pub const IS_SOCIAL_CHANNEL_MAP_SUPPORTED: u16 = 0x0008;
+
+    pub const DYNAMIC_SDB_ACTIVE: u16 = 0x0010;
+
+    pub const STATS_PRESENT: u16 = 0x0020;
+
+    pub const DFS_PROXY_SUPPORT: u16 = 0x0040;
+
+    pub const HIGH_EFFICIENCY_SUPPORT: u16 = 0x0100;
+
+    pub const IS_SIDEKICK_HUB: u16 = 0x0200;
+
+    pub const FAST_DISCOVERY_ACTIVE: u16 = 0x0400;
+
+    pub const WIFI_SIX_E_SUPPORT: u16 = 0x0800;
+
+    pub const ULTRA_LOW_LATENCY_INFRA_SUPPORT: u16 = 0x1000;
+
+    pub const PRO_MODE_ACTIVE: u16 = 0x2000;
+
+    pub const UNKNOWN: u16 = 0xC000;
+    // All of the above. Bit 7 has no name and is dropped.
+    pub const KEEP: u16 = 0xFF7F;
+
+    pub fn from_bits(bits: u16) -> DataPathExtendedFlags
+        ensures { λ r. ⌜ r .0 ≡ laid extendedKept bits ⌝ }
+    {
+        DataPathExtendedFlags(bits & DataPathExtendedFlags::KEEP)
+    }
+}
+
+// A field that may be missing is a flag beside its value, and the value is zero where it is missing.
+pub struct CountryCode {
+    pub present: bool,
+    pub first: u8,
+    pub second: u8,
+}
+
+pub struct OptionalChannel {
+    pub present: bool,
+    pub channel: DataPathChannel,
+}
+
+pub struct InfraBssidChannel {
+    pub present: bool,
+    pub bssid: MACAddress,
+    pub channel: u16,
+}
+
+pub struct OptionalAddress {
+    pub present: bool,
+    pub address: MACAddress,
+}
+
+pub struct OptionalOptions {
+    pub present: bool,
+    pub options: UnicastOptions,
+}
+
+pub struct OptionalWord {
+    pub present: bool,
+    pub word: u32,
+}
+
+pub struct OptionalExtendedFlags {
+    pub present: bool,
+    pub flags: DataPathExtendedFlags,
+}
+
+pub struct OptionalTriggerId {
+    pub present: bool,
+    pub id: u16,
+}
+
+pub struct OptionalStats {
+    pub present: bool,
+    pub stats: DataPathStats,
+}

@@ -1,0 +1,30 @@
+// The fields of the data path record, and how they are read: the flags, and behind them only the
+// fields that the flags announce.
+mod fields;
+mod misc;
+mod read;
+
+pub use fields::CountryCode;
+pub use fields::DataPathExtendedFlags;
+pub use fields::DataPathFlags;
+pub use fields::InfraBssidChannel;
+pub use fields::OptionalAddress;
+pub use fields::OptionalChannel;
+pub use fields::OptionalExtendedFlags;
+pub use fields::OptionalOptions;
+pub use fields::OptionalStats;
+pub use fields::OptionalTriggerId;
+pub use fields::OptionalWord;
+pub use misc::ChannelMap;
+pub use misc::DataPathChannel;
+pub use misc::DataPathStats;
+pub use misc::UnicastOptions;
+pub use read::Addresses;
+pub use read::Body;
+pub use read::Extended;
+pub use read::Head;
+pub use read::ReadBody;
+pub use read::ReadHead;
+pub use read::Unicast;
+pub use read::read_body;
+pub use read::read_head;
