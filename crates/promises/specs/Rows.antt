@@ -4,7 +4,7 @@ use Prim.Native.Nat.{ℕ}
 use mathlib.Core.Bool.{true}
 use mathlib.Core.List.{List, [], _∷_}
 use Rattle.wire.specs.Reading.{Reading, read, refused}
-use Rattle.wire.specs.Answer.{Answer, answer, refusal}
+use Rattle.wire.specs.Answer.{Answer, refusal}
 use Rattle.wire.specs.Outcomes.{Outcome, outcome, Result, result}
 use Rattle.channel_sequence.specs.Channels.{corrected}
 use Rattle.data_path_state.specs.declared.misc.DataPathChannel.{DataPathChannel}
