@@ -4,3 +4,7 @@ pub mod Changes
 pub mod Takes
 pub mod LaterFrames
 pub mod Demand3
+pub mod EveryCall
+pub mod Equations
+pub mod Refusing
+pub mod Demand1
