@@ -8,3 +8,5 @@ pub mod EveryCall
 pub mod Equations
 pub mod Refusing
 pub mod Demand1
+pub mod RoundTrips
+pub mod Demand2

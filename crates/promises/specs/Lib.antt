@@ -4,3 +4,4 @@ pub mod Rows
 pub mod Later
 pub mod Calls
 pub mod Answers
+pub mod Formats
