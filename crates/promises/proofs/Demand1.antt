@@ -31,12 +31,12 @@ use Rattle.action_frame.specs.Said.{saidFrame, saidDelta}
 use Rattle.action_frame.specs.Outcomes.{outcomeFrame, resultDelta}
 use Rattle.action_frame.proofs.Once.{onceFrame, onceDelta}
 use Rattle.promises.specs.Answers.{refusedOutcome, refusedResult, Once, Answering, Holding}
-use Rattle.promises.proofs.EveryCall.{EveryCallEnds, every-call-ends}
+use Rattle.promises.proofs.EveryCall.{EveryCall, every-call}
 use Rattle.promises.proofs.Refusing.{number-range, numbers-apart, reader, call, refused-buffer, short-buffer}
 
 pub record Demand1 : Type 2 where
   -- every public call ends with an answer, whatever it is given
-  pub calls : EveryCallEnds
+  pub calls : EveryCall
   -- a refusal's number is one of 1 to 9, and each refusal has its own
   pub numbers : (why : Refusal) → (1 ≤ numberOf why) × (numberOf why ≤ 9)
   pub apart : (why other : Refusal) → numberOf why ≡ numberOf other → why ≡ other
@@ -72,7 +72,7 @@ pub record Demand1 : Type 2 where
 pub demand1 : Demand1
 demand1 =
     record {
-      calls = every-call-ends;
+      calls = every-call;
       numbers = number-range;
       apart = numbers-apart;
       u8 = λ at. reader saidU8 0 at (λ a b e. onceU8 e refl);

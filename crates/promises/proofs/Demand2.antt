@@ -12,12 +12,12 @@ use Rattle.tlvs.proofs.Searches.{finds}
 use Rattle.promises.specs.Later.{Sent, sentIn, tailWith}
 use Rattle.promises.specs.Formats as formats
 use Rattle.promises.specs.Formats.{RoundTrip, AllConsistent}
-use Rattle.promises.proofs.Equations.{Equations, equations}
+use Rattle.promises.proofs.EveryCall.{EveryCall, every-call}
 use Rattle.promises.proofs.RoundTrips.{sequence-round, data-path-round, synchronization-round, item-round, frame-round, tail-round, found-none}
 
-pub record Demand2 : Type 1 where
+pub record Demand2 : Type 2 where
   -- on every input, what is read and what is written is what the definitions of our formats say
-  pub calls : Equations
+  pub calls : EveryCall
   -- a consistent record that is written into enough room fills exactly its size, and reads back as itself
   pub sequences : RoundTrip formats.sequences
   pub data-paths : RoundTrip formats.dataPaths
@@ -36,7 +36,7 @@ pub record Demand2 : Type 1 where
 pub demand2 : Demand2
 demand2 =
     record {
-      calls = equations;
+      calls = every-call;
       sequences = sequence-round;
       data-paths = data-path-round;
       synchronizations = synchronization-round;

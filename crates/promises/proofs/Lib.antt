@@ -5,8 +5,8 @@ pub mod Takes
 pub mod LaterFrames
 pub mod Demand3
 pub mod EveryCall
-pub mod Equations
 pub mod Refusing
 pub mod Demand1
 pub mod RoundTrips
 pub mod Demand2
+pub mod LaterExample
