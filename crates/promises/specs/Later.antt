@@ -60,7 +60,7 @@ pub data Changes : List Sent → List Sent → Type 0 where
   none : {items : List Sent} → Changes items items
   more : {items changed last : List Sent} → Change items changed → Changes changed last → Changes items last
 
--- a frame whose header is accepted and whose items are all whole
+-- a list of bytes whose header is accepted and whose items are all whole
 pub record WholeFrame (frame : List ℕ) : Type 0 where
   pub bytes : (i : ℕ) → getD frame i 0 < 256
   pub head : AWDLActionFrame
