@@ -1,7 +1,7 @@
 -- Every call ends with an answer, and a refusal is told by its number and leaves nothing behind: the contracts say so, and what an answer stands for is computed from what it says.
 -- Assumes nothing.
 use Prim.Native.Nat.{ℕ, _≤_}
-use mathlib.Core.Path.{_≡_, refl}
+use mathlib.Core.Path.{_≡_, refl, sym, _∙_}
 use mathlib.Core.Bool.{false}
 use mathlib.Core.List.{List}
 use Rattle.wire.specs.declared.refusal.Refusal.{Refusal}
@@ -62,6 +62,11 @@ pub record Demand1 : Type 2 where
   -- the end report and the search refuse nothing
   pub end : Once saidEnd
   pub found : Once saidFoundDataPath
+  -- only one answer of a writer, and one buffer afterwards, meet its statement
+  pub wrote : (s : List ℕ) (bytes : Answer (List ℕ)) (said other : Answer ℕ) (after last : List ℕ)
+      → Wrote s bytes said after → Wrote s bytes other last → (said ≡ other) × (after ≡ last)
+  pub put : (s : List ℕ) (at : ℕ) (bytes : List ℕ) (next other : ℕ) (after last : List ℕ)
+      → Put s at bytes next after → Put s at bytes other last → (next ≡ other) × (after ≡ last)
   -- a writer that refuses leaves every byte of the buffer as it was
   pub writers : (s : List ℕ) (bytes : Answer (List ℕ)) (said : Answer ℕ) (after : List ℕ) (why : Refusal)
       → Wrote s bytes said after → said ≡ refusal why → after ≡ s
@@ -92,6 +97,8 @@ demand1 =
       delta = call saidDelta 0 (λ a b e. onceDelta e refl);
       end = λ a b e. onceEnd e refl;
       found = λ a b e. onceFoundDataPath e refl;
+      wrote = λ s bytes said other after last p q. (p .size ∙ sym (q .size), p .buffer ∙ sym (q .buffer));
+      put = λ s at bytes next other after last p q. (p .place ∙ sym (q .place), p .buffer ∙ sym (q .buffer));
       writers = refused-buffer;
       steps = short-buffer;
     }

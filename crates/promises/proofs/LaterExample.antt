@@ -7,6 +7,7 @@ use mathlib.Core.List.{List, [], _∷_, _++_}
 use lib.ListN.{getD}
 use Rattle.tlvs.specs.Items.{stepAt}
 use Rattle.tlvs.specs.Walk.{walkFrom}
+use Rattle.action_frame.specs.Frames.{tailOf}
 use Rattle.promises.specs.Later.{Sent, as-data-path, insert, grow, none, more, WholeFrame, Later, received}
 use Rattle.promises.specs.Formats.{Below}
 use Rattle.promises.proofs.Demand3.{demand3}
@@ -27,7 +28,7 @@ each (b ∷ rest) h (suc i) = each rest (h .1) i
 
 pub whole-before : WholeFrame before
 unfolding stepAt walkFrom
-whole-before = record { bytes = each before (omega arith); head = _; size = 12; accepted = refl; ending = refl }
+whole-before = record { bytes = each (tailOf before) (omega arith); head = _; size = 12; accepted = refl; ending = refl }
 
 pub later-after : Later before after
 unfolding stepAt walkFrom

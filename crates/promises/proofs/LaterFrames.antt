@@ -1,11 +1,11 @@
 -- A later frame has the header of the frame and the items that its changes made of the frame's, so that the laws of items and of headers give the rest.
 -- Assumes nothing.
-use Prim.Native.Nat.{ℕ, _+_}
+use Prim.Native.Nat.{ℕ}
 use native.Mathlib.Omega.{arith}
 use mathlib.Core.Path.{_≡_, refl, sym, ap, _∙_}
 use mathlib.Core.List.{List, [], _∷_, _++_, append-assoc}
 use lib.ListN.{length, take, take-append-drop}
-use lib.Seq.{length-take-le, take-at, drop-at, getD-drop}
+use lib.Seq.{length-take-le, take-at, drop-at}
 use Rattle.wire.specs.Reading.{Reader}
 use Rattle.wire.proofs.Lawful.{Same}
 use Rattle.data_path_state.specs.DataPath.{dataPath}
@@ -15,16 +15,13 @@ use Rattle.tlvs.specs.ItemBytes.{laidOut}
 use Rattle.action_frame.specs.Frames.{header, tailOf}
 use Rattle.action_frame.proofs.RoundTrip.{header-lawful}
 use Rattle.promises.specs.Later.{Sent, sentIn, tailWith, Change, behind, none, more, WholeFrame, Later, records, received}
-use Rattle.promises.proofs.Tails.{Bytes, AllFit, spelt, found-again}
+use Rattle.promises.proofs.Tails.{AllFit, spelt, found-again}
 use Rattle.promises.proofs.Takes.{header-size}
 use Rattle.promises.proofs.Changes.{recordsOf, records-sent, synchronizations-kept, data-paths-kept, changes-fit}
 
-tail-bytes : (frame : List ℕ) → WholeFrame frame → Bytes (tailOf frame)
-tail-bytes frame w i = rw (getD-drop 12 frame i 0) (w .bytes (12 + i))
-
 pub whole-written : (frame : List ℕ) → WholeFrame frame → frame ≡ take 12 frame ++ tailWith (sentIn (tailOf frame))
 whole-written frame w =
-    let s = spelt (tailOf frame) (tail-bytes frame w) (w .ending) in
+    let s = spelt (tailOf frame) (w .bytes) (w .ending) in
     rw (s .bytes) (sym (take-append-drop 12 frame))
 
 changed-tail : (front : List Sent) {items changed : List Sent} → Change items changed → Change (front ++ items) (front ++ changed)
@@ -50,7 +47,7 @@ changed frame front {items} {changed} e c =
 
 module _ (before after : List ℕ) (w : WholeFrame before) (later : Later before after) where
   fit : AllFit (later .items)
-  fit = changes-fit (later .changes) (spelt (tailOf before) (tail-bytes before w) (w .ending) .fit)
+  fit = changes-fit (later .changes) (spelt (tailOf before) (w .bytes) (w .ending) .fit)
 
   twelve : w .size ≡ 12
   twelve = header-size before (w .accepted)

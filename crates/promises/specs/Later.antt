@@ -60,9 +60,9 @@ pub data Changes : List Sent → List Sent → Type 0 where
   none : {items : List Sent} → Changes items items
   more : {items changed last : List Sent} → Change items changed → Changes changed last → Changes items last
 
--- a list of bytes whose header is accepted and whose items are all whole
+-- a frame whose header is accepted and whose items are all whole; its tail is of bytes, as every slice of the code is
 pub record WholeFrame (frame : List ℕ) : Type 0 where
-  pub bytes : (i : ℕ) → getD frame i 0 < 256
+  pub bytes : (i : ℕ) → getD (tailOf frame) i 0 < 256
   pub head : AWDLActionFrame
   pub size : ℕ
   pub accepted : header frame 0 ≡ read head size
