@@ -1,6 +1,6 @@
 -- What was written of a frame is read back as its header and its tail, since each field is; its reader keeps the laws of every reader.
 -- Assumes nothing.
-use Prim.Native.Nat.{ℕ, _+_, _%_, _^_, _<_}
+use Prim.Native.Nat.{ℕ, _+_, _%_, _<_}
 use native.Mathlib.Nat.{zero-add}
 use native.Mathlib.Omega.{arith}
 use mathlib.Core.Path.{_≡_, refl, ap, _∙_}
@@ -18,15 +18,9 @@ use Rattle.wire.specs.Writing.{Wrote}
 use Rattle.wire.proofs.Lawful.{Lawful, bind-lawful, asked-lawful, made-lawful, field-lawful, number-lawful}
 use Rattle.wire.proofs.ReadsBack.{Back, bind-back, asked-back, made-back, field-back, number-back}
 use Rattle.action_frame.specs.declared.AWDLActionFrame.{AWDLActionFrame}
-use Rattle.action_frame.specs.Frames.{fixedByte, subtype, subtypeBytes, header, tailOf, headerBytes, bytesOf}
+use Rattle.action_frame.specs.Frames.{fixedByte, subtype, subtypeBytes, header, tailOf, headerBytes, bytesOf, InWidth}
 use Rattle.wire.proofs.Bytes.{known-room}
 use Rattle.action_frame.proofs.Sizes.{length-header, length-bytes}
-
--- the numbers of a header stand within their widths, as those of the code do
-pub record InWidth (f : AWDLActionFrame) : Type 0 where
-  pub subtype : f .subtype < 256
-  pub phy : f .«phy_tx_time» .0 < 2 ^ 32
-  pub target : f .«target_tx_time» .0 < 2 ^ 32
 
 fixed-back : (value : ℕ) (why : Refusal) → value < 256 → Back (fixedByte value why) (littleBytes 1 value) tt
 fixed-back value why h =

@@ -1,5 +1,5 @@
 -- An action frame: its header, which is read and written, and the tail behind it.
-use Prim.Native.Nat.{ℕ}
+use Prim.Native.Nat.{ℕ, _^_, _<_}
 use mathlib.Core.List.{List, [], _∷_, _++_}
 use lib.Dec.{eqb}
 use lib.ListN.{getD, drop}
@@ -53,3 +53,9 @@ headerBytes f =
 
 abbrev pub bytesOf : AWDLActionFrame → List ℕ → List ℕ
 bytesOf f tail = headerBytes f ++ tail
+
+-- the numbers of a header stand within their widths, as those of the code do
+pub record InWidth (f : AWDLActionFrame) : Type 0 where
+  pub subtype : f .subtype < 256
+  pub phy : f .«phy_tx_time» .0 < 2 ^ 32
+  pub target : f .«target_tx_time» .0 < 2 ^ 32

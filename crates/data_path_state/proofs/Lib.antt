@@ -2,7 +2,6 @@ pub mod Bits
 pub mod Puts
 pub mod Right
 pub mod Sizes
-pub mod Ranges
 pub mod RoundTrip
 pub mod Values
 pub mod Accepted

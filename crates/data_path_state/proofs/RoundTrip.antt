@@ -41,7 +41,7 @@ use Rattle.data_path_state.specs.Consistent.{channelRight, consistent}
 use Rattle.data_path_state.specs.Bytes.{countryBytes, channelBytes, infraBytes, oneAddressBytes, wordBytes, triggerIdBytes, threeWords, statsBytes}
 use Rattle.data_path_state.specs.Bytes.{headBytes, addressesBytes, unicastBytes, extendedBytes, laidDown, bytesOf, sizeOf}
 use Rattle.data_path_state.proofs.Right.{Right, right, Announced, announced, Gone, gone}
-use Rattle.data_path_state.proofs.Ranges.{Ranges}
+use Rattle.data_path_state.specs.Ranges.{Ranges}
 use Rattle.data_path_state.proofs.Sizes.{length-laid}
 
 country-back : (c : CountryCode) → c .first < 256 → c .second < 256 → c .present ≡ true

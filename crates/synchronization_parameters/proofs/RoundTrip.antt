@@ -11,25 +11,16 @@ use lib.Seq.{drop-append-seam}
 use borrow.Author.Tests.{le-leb}
 use Rattle.wire.specs.Reading.{Reader, read, _>>=_}
 use Rattle.wire.specs.Answer.{answer}
-use Rattle.wire.specs.Numbers.{littleBytes}
+use Rattle.wire.specs.Numbers.{Fits, one, littleBytes}
 use Rattle.wire.specs.Writing.{within, lengthOf, afterwards}
-use Rattle.wire.proofs.ReadsBack.{Back, bind-back, made-back, field-back, Fits, one, number-on, number-last, address-on}
+use Rattle.wire.proofs.ReadsBack.{Back, bind-back, made-back, field-back, number-on, number-last, address-on}
 use Rattle.synchronization_parameters.specs.declared.synchronization_parameters_tlv.SynchronizationParametersTLV.{SynchronizationParametersTLV}
 use Rattle.synchronization_parameters.specs.SynchronizationReader.{presenceMode, synchronization}
-use Rattle.synchronization_parameters.specs.SynchronizationBytes.{bytesOf}
+use Rattle.synchronization_parameters.specs.SynchronizationBytes.{bytesOf, numbers}
 
 pub length-bytes : (p : SynchronizationParametersTLV) → length (bytesOf p) ≡ 33
 unfolding bytesOf
 length-bytes p = refl
-
--- the numbers of a record with their widths; in the code each fits, since its type has as many bytes
-abbrev pub numbers : SynchronizationParametersTLV → List (ℕ × ℕ)
-numbers p =
-    (1, p .«next_channel») ∷ (2, p .«tx_counter») ∷ (1, p .«master_channel») ∷ (1, p .«guard_time»)
-    ∷ (2, p .«aw_period») ∷ (2, p .«af_period») ∷ (2, p .«awdl_flags»)
-    ∷ (2, p .«aw_ext_length») ∷ (2, p .«aw_common_length») ∷ (2, p .«remaining_aw_length»)
-    ∷ (1, p .«min_ext_count») ∷ (1, p .«max_multicast_ext_count») ∷ (1, p .«max_unicast_ext_count») ∷ (1, p .«max_af_ext_count»)
-    ∷ (1, p .«presence_mode») ∷ (2, p .«aw_seq_number») ∷ (2, p .«ap_beacon_alignment_delta») ∷ []
 
 mode-back : (mode : ℕ) → mode < 256 ^ 1 → Back presenceMode (littleBytes 1 mode ++ (0 ∷ [])) mode
 mode-back mode h =

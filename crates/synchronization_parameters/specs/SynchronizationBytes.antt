@@ -27,3 +27,12 @@ bytesOf p =
     ++ (0 ∷ [])
     ++ littleBytes 2 (p .«aw_seq_number»)
     ++ littleBytes 2 (p .«ap_beacon_alignment_delta»)
+
+-- the numbers of a record with their widths; in the code each fits, since its type has as many bytes
+abbrev pub numbers : SynchronizationParametersTLV → List (ℕ × ℕ)
+numbers p =
+    (1, p .«next_channel») ∷ (2, p .«tx_counter») ∷ (1, p .«master_channel») ∷ (1, p .«guard_time»)
+    ∷ (2, p .«aw_period») ∷ (2, p .«af_period») ∷ (2, p .«awdl_flags»)
+    ∷ (2, p .«aw_ext_length») ∷ (2, p .«aw_common_length») ∷ (2, p .«remaining_aw_length»)
+    ∷ (1, p .«min_ext_count») ∷ (1, p .«max_multicast_ext_count») ∷ (1, p .«max_unicast_ext_count») ∷ (1, p .«max_af_ext_count»)
+    ∷ (1, p .«presence_mode») ∷ (2, p .«aw_seq_number») ∷ (2, p .«ap_beacon_alignment_delta») ∷ []

@@ -13,7 +13,7 @@ use borrow.Author.Tests.{le-leb}
 use Rattle.wire.specs.declared.read.MACAddress.{MACAddress}
 use Rattle.wire.specs.Reading.{Reader, read, give, field, _>>=_, when}
 use Rattle.wire.specs.Answer.{Answer, answer, asked}
-use Rattle.wire.specs.Numbers.{little, littleBytes, number}
+use Rattle.wire.specs.Numbers.{Fits, none, one, little, littleBytes, number}
 use Rattle.wire.specs.Addresses.{address, addressOf, addressBytes}
 
 -- a reader reads some bytes as a value
@@ -85,11 +85,6 @@ number-back width v h =
 
 pub address-back : (a : MACAddress) → Back address (addressBytes a) a
 address-back a = made-back addressOf (field-back 6 (addressBytes a) refl)
-
--- numbers, each with the width of its field, that are below what their bytes can write
-pub data Fits : List (ℕ × ℕ) → Type 0 where
-  none : Fits []
-  one : {width v : ℕ} {others : List (ℕ × ℕ)} → v < 256 ^ width → Fits others → Fits ((width, v) ∷ others)
 
 -- a number that fits, in front of what is read back where the others fit
 pub number-on : {B : Type 0} (width : ℕ) (f : ℕ → Reader B) {v : ℕ} {others : List (ℕ × ℕ)} {bytes : List ℕ} {b : B}

@@ -1,5 +1,5 @@
 -- Numbers: little-endian, whatever the board.
-use Prim.Native.Nat.{ℕ, zero, suc, _+_, _*_, _/_, _%_, _^_}
+use Prim.Native.Nat.{ℕ, zero, suc, _+_, _*_, _/_, _%_, _^_, _<_}
 use mathlib.Core.Bool.{Bool}
 use mathlib.Core.List.{List, [], _∷_}
 use lib.Dec.{eqb}
@@ -26,3 +26,8 @@ bits from many w = w / 2 ^ from % 2 ^ many
 
 abbrev pub bit : ℕ → ℕ → Bool
 bit k w = eqb (bits k 1 w) 1
+
+-- numbers, each with the width of its field, that are below what their bytes can write
+pub data Fits : List (ℕ × ℕ) → Type 0 where
+  none : Fits []
+  one : {width v : ℕ} {others : List (ℕ × ℕ)} → v < 256 ^ width → Fits others → Fits ((width, v) ∷ others)

@@ -1,6 +1,5 @@
 -- The bounds that the types of the fields set; every record that code holds keeps them.
--- Assumes nothing.
-use Prim.Native.Nat.{ℕ, _^_, _<_}
+use Prim.Native.Nat.{_^_, _<_}
 use Rattle.data_path_state.specs.declared.data_path_state_tlv.DataPathStateTLV.{DataPathStateTLV}
 use Rattle.data_path_fields.specs.Words.{wordOf}
 

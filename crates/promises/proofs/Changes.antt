@@ -1,0 +1,104 @@
+-- The records of a tail depend on the types and values of its items alone. An item of another type adds none, and bytes behind an accepted value change none: readers are lawful.
+-- Assumes nothing.
+use Prim.Native.Nat.{ℕ}
+use native.Mathlib.Omega.{arith}
+use mathlib.Core.Path.{_≡_, refl, sym, ap₂, _∙_}
+use mathlib.Core.Bool.{Bool, true, false, cond}
+use mathlib.Core.List.{List, [], _∷_, _++_, map, map-append}
+use lib.Dec.{eqb}
+use borrow.Author.Tests.{ne-eqb}
+use Rattle.wire.specs.Reading.{Reading, Reader, read, refused}
+use Rattle.wire.proofs.Lawful.{Lawful, grown}
+use Rattle.data_path_state.specs.DataPath.{dataPath}
+use Rattle.data_path_state.proofs.Values.{data-path-lawful}
+use Rattle.synchronization_parameters.specs.SynchronizationReader.{synchronization}
+use Rattle.synchronization_parameters.proofs.Whole.{synchronization-lawful}
+use Rattle.tlvs.specs.declared.item.Item.{Item}
+use Rattle.tlvs.specs.Items.{valueOf}
+use Rattle.tlvs.specs.Walk.{walk}
+use Rattle.tlvs.specs.Search.{Accepted as Kept, kept, matched, accepted, allFrom}
+use Rattle.tlvs.specs.Sent.{AllSendable, Sent, sent, sentIn}
+use Rattle.promises.specs.Later.{Unread, Accepted, as-synchronization, as-data-path, longer, Change, insert, grow, behind, Changes, none, more, records}
+
+-- what a reading gives of a record: one, or none
+abbrev pub given : {A : Type 0} → Reading A → List A
+given (read a size) = a ∷ []
+given (refused why) = []
+
+-- the record of one item, and those of some items in their order
+abbrev pub recordOf : {A : Type 0} → ℕ → Reader A → Sent → List A
+recordOf type reader it = cond (eqb (it .type) type) (given (reader (it .value) 0)) []
+
+abbrev pub recordsOf : {A : Type 0} → ℕ → Reader A → List Sent → List A
+recordsOf type reader [] = []
+recordsOf type reader (it ∷ rest) = recordOf type reader it ++ recordsOf type reader rest
+
+abbrev content : {A : Type 0} → Kept A → A
+content a = a .content
+
+module _ {A : Type 0} (type : ℕ) (reader : Reader A) where
+  one-record : (tail : List ℕ) (it : Item) → map content (matched type reader tail it) ≡ recordOf type reader (sent tail it)
+  unfolding matched
+  one-record tail it = go (eqb (it .«tlv_type») type) (reader (valueOf tail it) 0)
+    where
+      go : (b : Bool) (m : Reading A) → map content (cond b (kept it m) []) ≡ cond b (given m) []
+      go true (read a size) = refl
+      go true (refused why) = refl
+      go false m = refl
+
+  some-records : (tail : List ℕ) (items : List Item) → map content (accepted type reader tail items) ≡ recordsOf type reader (map (sent tail) items)
+  some-records tail [] = refl
+  some-records tail (it ∷ rest) =
+      map-append content (matched type reader tail it) (accepted type reader tail rest)
+      ∙ ap₂ (λ (x y : List A). x ++ y) (one-record tail it) (some-records tail rest)
+
+  pub records-sent : (tail : List ℕ) → records type reader tail ≡ recordsOf type reader (sentIn tail)
+  unfolding allFrom
+  records-sent tail = some-records tail (walk tail .items)
+
+  -- an item of another type gives no record, and bytes behind an accepted value do not change its record
+  none-of : (it : Sent) → ¬ (it .type ≡ type) → recordOf type reader it ≡ []
+  none-of it apart = rw (ne-eqb (it .type) type apart)
+
+  pub other-longer : (it : Sent) (bytes : List ℕ) → ¬ (it .type ≡ type) → recordOf type reader (longer it bytes) ≡ recordOf type reader it
+  other-longer it bytes apart = none-of (longer it bytes) apart ∙ sym (none-of it apart)
+
+  pub same-longer : Lawful reader → (it : Sent) (bytes : List ℕ) {a : A} {size : ℕ} → reader (it .value) 0 ≡ read a size
+      → recordOf type reader (longer it bytes) ≡ recordOf type reader it
+  same-longer l it bytes e = rw (grown l (it .value) bytes e, e)
+
+  module _ (skips : (it : Sent) → Unread it → ¬ (it .type ≡ type))
+      (stays : (it : Sent) (bytes : List ℕ) → Accepted it → recordOf type reader (longer it bytes) ≡ recordOf type reader it) where
+    change-keeps : {items changed : List Sent} → Change items changed → recordsOf type reader changed ≡ recordsOf type reader items
+    change-keeps (insert it u) = rw (none-of it (skips it u))
+    change-keeps (grow it bytes a h) = rw (stays it bytes a)
+    change-keeps (behind it c) = rw (change-keeps c)
+
+    pub changes-keep : {items changed : List Sent} → Changes items changed → recordsOf type reader changed ≡ recordsOf type reader items
+    changes-keep none = refl
+    changes-keep (more c rest) = changes-keep rest ∙ change-keeps c
+
+-- the two types that are read
+pub synchronizations-kept : {items changed : List Sent} → Changes items changed → recordsOf 0x04 synchronization changed ≡ recordsOf 0x04 synchronization items
+synchronizations-kept = changes-keep 0x04 synchronization (λ it u. u .no-synchronization) stays
+  where
+    stays : (it : Sent) (bytes : List ℕ) → Accepted it → recordOf 0x04 synchronization (longer it bytes) ≡ recordOf 0x04 synchronization it
+    stays it bytes (as-synchronization t e) = same-longer 0x04 synchronization synchronization-lawful it bytes e
+    stays it bytes (as-data-path t e) = other-longer 0x04 synchronization it bytes (omega arith)
+
+pub data-paths-kept : {items changed : List Sent} → Changes items changed → recordsOf 0x0C dataPath changed ≡ recordsOf 0x0C dataPath items
+data-paths-kept = changes-keep 0x0C dataPath (λ it u. u .no-data-path) stays
+  where
+    stays : (it : Sent) (bytes : List ℕ) → Accepted it → recordOf 0x0C dataPath (longer it bytes) ≡ recordOf 0x0C dataPath it
+    stays it bytes (as-synchronization t e) = other-longer 0x0C dataPath it bytes (omega arith)
+    stays it bytes (as-data-path t e) = same-longer 0x0C dataPath data-path-lawful it bytes e
+
+-- items that can be written still can be
+change-fits : {items changed : List Sent} → Change items changed → AllSendable items → AllSendable changed
+change-fits (insert it u) ok = (record { byte = u .byte; short = u .short }, ok)
+change-fits (grow it bytes a h) ok = (record { byte = ok .0 .byte; short = h }, ok .1)
+change-fits (behind it c) ok = (ok .0, change-fits c (ok .1))
+
+pub changes-fit : {items changed : List Sent} → Changes items changed → AllSendable items → AllSendable changed
+changes-fit none ok = ok
+changes-fit (more c rest) ok = changes-fit rest (change-fits c ok)

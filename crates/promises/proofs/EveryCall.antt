@@ -1,0 +1,244 @@
+-- Every public call is proved in its own crate, and the contract that it is proved to meet computes to the claim that stands here.
+-- Assumes nothing.
+use mathlib.Core.Path.{_≡_}
+use denote.Ref.{now}
+use Rattle.wire.specs.Refusals.{numberOf}
+use Rattle.wire.specs.Reading.{field}
+use Rattle.wire.specs.Answer.{answer, placeOf}
+use Rattle.wire.specs.Numbers.{number, littleBytes}
+use Rattle.wire.specs.Words.{laid}
+use Rattle.wire.specs.Addresses.{address, addressBytes}
+use Rattle.wire.specs.Writing.{within, Put, Wrote}
+use Rattle.wire.specs.Said.{saidU8, saidU16, saidU32, saidAddress, saidPlace, saidSize}
+use Rattle.channel_sequence.specs.Channels.{encodingOf, entrySize, sizeOfEncoding, keptFlags, supportChannel, channelBandwidth, band, corrected}
+use Rattle.channel_sequence.specs.Sequences as Q
+use Rattle.channel_sequence.specs.SequenceReader.{sequence}
+use Rattle.channel_sequence.specs.Said.{saidEncoding, saidCorrected, saidConsistent, sequenceRead, sequenceFixed}
+use Rattle.data_path_fields.specs.Words.{extendedKept, optionsKept, channelOf, wordOf}
+use Rattle.data_path_fields.specs.Fields.{head, body}
+use Rattle.data_path_fields.specs.Said.{saidHead, saidBody}
+use Rattle.data_path_state.specs.DataPath.{dataPath}
+use Rattle.data_path_state.specs.Consistent.{consistent}
+use Rattle.data_path_state.specs.Mended.{mended}
+use Rattle.data_path_state.specs.Bytes as D
+use Rattle.data_path_state.specs.Said.{saidDataPath}
+use Rattle.synchronization_parameters.specs.SynchronizationReader.{synchronization}
+use Rattle.synchronization_parameters.specs.SynchronizationBytes as S
+use Rattle.synchronization_parameters.specs.Said.{synchronizationRead}
+use Rattle.tlvs.specs.Items.{stepAt, valueOf}
+use Rattle.tlvs.specs.Walk.{walk, reportOf}
+use Rattle.tlvs.specs.Search.{nextDataPath, nextSynchronization}
+use Rattle.tlvs.specs.ItemBytes.{itemBytes}
+use Rattle.tlvs.specs.Said.{saidEnd, saidFoundDataPath, synchronizationFound}
+use Rattle.action_frame.specs.Frames as F
+use Rattle.action_frame.specs.Frames.{header, tailOf}
+use Rattle.action_frame.specs.Stamps.{delta}
+use Rattle.action_frame.specs.Said.{saidFrame, saidDelta}
+use Rattle.report.specs.Marks.{firstMark, standsAt}
+use Rattle.report.specs.Shown.{Shows}
+use Rattle.wire.proofs as wire
+use Rattle.wire.proofs.refusal.Refusal as refusals
+use Rattle.channel_sequence.proofs.channel.ChannelEncoding as encodings
+use Rattle.channel_sequence.proofs.channel.LegacyFlags as flags
+use Rattle.channel_sequence.proofs.channel.Channel as channels
+use Rattle.channel_sequence.proofs.channel_sequence.ChannelSequence as sequences
+use Rattle.data_path_fields.proofs as fields
+use Rattle.data_path_state.proofs.data_path_state_tlv.DataPathStateTLV as data-paths
+use Rattle.data_path_fields.proofs.misc.DataPathChannel as words
+use Rattle.data_path_fields.proofs.misc.UnicastOptions as options
+use Rattle.data_path_fields.proofs.fields.DataPathExtendedFlags as extended
+use Rattle.synchronization_parameters.proofs.synchronization_parameters_tlv.SynchronizationParametersTLV as synchronizations
+use Rattle.tlvs.proofs as tlvs
+use Rattle.tlvs.proofs.read_tlvs.ReadTLVs as readers
+use Rattle.action_frame.proofs.AWDLActionFrame as frames
+use Rattle.action_frame.proofs as stamps
+use Rattle.report.proofs as report
+use Rattle.promises.specs.Calls.{Call}
+
+-- In a claim, `a` are the call's arguments in their order, `r` is its answer, and `e` are the arguments as they are afterwards.
+pub record EveryCall : Type 2 where
+  -- numbers, fields and addresses, read from a place and put at one; a size that has to fit a room
+  pub u8-at : Call wire.u8_at.Symbol.routine wire.u8_at.ended
+      (λ κs a r e. saidU8 r ≡ number 1 (now (a .0)) (a .1 .0))
+  pub u16-at : Call wire.u16_at.Symbol.routine wire.u16_at.ended
+      (λ κs a r e. saidU16 r ≡ number 2 (now (a .0)) (a .1 .0))
+  pub u32-at : Call wire.u32_at.Symbol.routine wire.u32_at.ended
+      (λ κs a r e. saidU32 r ≡ number 4 (now (a .0)) (a .1 .0))
+  pub address-at : Call wire.address_at.Symbol.routine wire.address_at.ended
+      (λ κs a r e. saidAddress r ≡ address (now (a .0)) (a .1 .0))
+  pub field-at : Call wire.field_at.Symbol.routine wire.field_at.ended
+      (λ κs a r e. saidPlace r ≡ placeOf (field (a .1 .1 .0) (now (a .0)) (a .1 .0)))
+  pub put-u8 : Call wire.put_u8.Symbol.routine wire.put_u8.ended
+      (λ κs a r e. Put (now (a .0)) (a .1 .0) (littleBytes 1 (a .1 .1 .0)) r (now (e .0)))
+  pub put-u16 : Call wire.put_u16.Symbol.routine wire.put_u16.ended
+      (λ κs a r e. Put (now (a .0)) (a .1 .0) (littleBytes 2 (a .1 .1 .0)) r (now (e .0)))
+  pub put-u32 : Call wire.put_u32.Symbol.routine wire.put_u32.ended
+      (λ κs a r e. Put (now (a .0)) (a .1 .0) (littleBytes 4 (a .1 .1 .0)) r (now (e .0)))
+  pub put-address : Call wire.put_address.Symbol.routine wire.put_address.ended
+      (λ κs a r e. Put (now (a .0)) (a .1 .0) (addressBytes (a .1 .1 .0)) r (now (e .0)))
+  pub put-slice : Call wire.put_slice.Symbol.routine wire.put_slice.ended
+      (λ κs a r e. Put (now (a .0)) (a .1 .0) (now (a .1 .1 .0)) r (now (e .0)))
+  pub within : Call wire.within.Symbol.routine wire.within.ended
+      (λ κs a r e. saidSize r ≡ within (a .0) (saidSize (a .1 .0)))
+  pub refusal-number : Call refusals.number.Symbol.routine refusals.number.ended
+      (λ κs a r e. r ≡ numberOf (a .0))
+  -- channel encodings, legacy flags and the corrected channel
+  pub encoding-from-bits : Call encodings.from_bits.Symbol.routine encodings.from_bits.ended
+      (λ κs a r e. saidEncoding r ≡ encodingOf (a .0))
+  pub encoding-entry-size : Call encodings.entry_size.Symbol.routine encodings.entry_size.ended
+      (λ κs a r e. r ≡ entrySize (a .0))
+  pub encoding-size : Call encodings.size.Symbol.routine encodings.size.ended
+      (λ κs a r e. saidSize r ≡ sizeOfEncoding (a .0))
+  pub legacy-flags-from-bits : Call flags.from_bits.Symbol.routine flags.from_bits.ended
+      (λ κs a r e. r .0 ≡ keptFlags (a .0))
+  pub legacy-flags-support-channel : Call flags.support_channel.Symbol.routine flags.support_channel.ended
+      (λ κs a r e. r ≡ supportChannel (a .0 .0))
+  pub legacy-flags-channel-bandwidth : Call flags.channel_bandwidth.Symbol.routine flags.channel_bandwidth.ended
+      (λ κs a r e. r ≡ channelBandwidth (a .0 .0))
+  pub legacy-flags-band : Call flags.band.Symbol.routine flags.band.ended
+      (λ κs a r e. r ≡ band (a .0 .0))
+  pub corrected-channel : Call channels.channel.Symbol.routine channels.channel.ended
+      (λ κs a r e. saidCorrected r ≡ corrected (a .0))
+  -- channel sequences
+  pub sequence-read : Call sequences.read.Symbol.routine sequences.read.ended
+      (λ κs a r e. r ≡ sequenceRead (sequence (a .1 .1 .0) (now (a .0)) (a .1 .0)))
+  pub sequence-consistent : Call sequences.consistent.Symbol.routine sequences.consistent.ended
+      (λ κs a r e. saidConsistent r ≡ Q.consistent (a .0))
+  pub sequence-size : Call sequences.size.Symbol.routine sequences.size.ended
+      (λ κs a r e. saidSize r ≡ Q.sizeOf (a .0))
+  pub sequence-write : Call sequences.write.Symbol.routine sequences.write.ended
+      (λ κs a r e. Wrote (now (a .1 .0)) (Q.bytesOf (a .0)) (saidSize r) (now (e .1 .0)))
+  pub sequence-fixed-channel-sequence : Call sequences.fixed_channel_sequence.Symbol.routine sequences.fixed_channel_sequence.ended
+      (λ κs a r e. r ≡ sequenceFixed (Q.fixed (a .0)))
+  -- data path records and their words
+  pub data-path-read : Call data-paths.read.Symbol.routine data-paths.read.ended
+      (λ κs a r e. saidDataPath r ≡ dataPath (now (a .0)) 0)
+  pub data-path-consistent : Call data-paths.consistent.Symbol.routine data-paths.consistent.ended
+      (λ κs a r e. r ≡ consistent (a .0))
+  pub data-path-size : Call data-paths.size.Symbol.routine data-paths.size.ended
+      (λ κs a r e. saidSize r ≡ D.sizeOf (a .0))
+  pub data-path-mend : Call data-paths.mend.Symbol.routine data-paths.mend.ended
+      (λ κs a r e. r ≡ mended (a .0))
+  pub data-path-write : Call data-paths.write.Symbol.routine data-paths.write.ended
+      (λ κs a r e. Wrote (now (a .1 .0)) (D.bytesOf (a .0)) (saidSize r) (now (e .1 .0)))
+  pub data-path-head : Call fields.read_head.Symbol.routine fields.read_head.ended
+      (λ κs a r e. saidHead r ≡ head (now (a .0)) 0)
+  pub data-path-body : Call fields.read_body.Symbol.routine fields.read_body.ended
+      (λ κs a r e. saidBody r ≡ body (a .1 .1 .0) (now (a .0)) (a .1 .0))
+  pub channel-word-from-u16 : Call words.from_u16.Symbol.routine words.from_u16.ended
+      (λ κs a r e. r ≡ channelOf (a .0))
+  pub channel-word-as-u16 : Call words.as_u16.Symbol.routine words.as_u16.ended
+      (λ κs a r e. r ≡ wordOf (a .0))
+  pub unicast-options-from-bits : Call options.from_bits.Symbol.routine options.from_bits.ended
+      (λ κs a r e. r .0 ≡ laid optionsKept (a .0))
+  pub extended-flags-from-bits : Call extended.from_bits.Symbol.routine extended.from_bits.ended
+      (λ κs a r e. r .0 ≡ laid extendedKept (a .0))
+  -- synchronization records
+  pub synchronization-read : Call synchronizations.read.Symbol.routine synchronizations.read.ended
+      (λ κs a r e. r ≡ synchronizationRead (synchronization (now (a .0)) 0))
+  pub synchronization-write : Call synchronizations.write.Symbol.routine synchronizations.write.ended
+      (λ κs a r e. Wrote (now (a .1 .0)) (answer (S.bytesOf (a .0))) (saidSize r) (now (e .1 .0)))
+  -- items: a step of the walk, an item's value, the end report, the search for the records of a type, the writer
+  pub step : Call tlvs.step.Symbol.routine tlvs.step.ended
+      (λ κs a r e. r ≡ stepAt (now (a .0)) (a .1 .0))
+  pub value : Call tlvs.value.Symbol.routine tlvs.value.ended
+      (λ κs a r e. now r ≡ valueOf (now (a .0)) (a .1 .0))
+  pub end : Call tlvs.end.Symbol.routine tlvs.end.ended
+      (λ κs a r e. saidEnd r ≡ reportOf (walk (now (a .0))))
+  pub next-data-path : Call tlvs.next_data_path.Symbol.routine tlvs.next_data_path.ended
+      (λ κs a r e. saidFoundDataPath r ≡ nextDataPath (now (a .0)) (a .1 .0))
+  pub first-data-path : Call tlvs.first_data_path.Symbol.routine tlvs.first_data_path.ended
+      (λ κs a r e. saidFoundDataPath r ≡ nextDataPath (now (a .0)) 0)
+  pub next-synchronization : Call tlvs.next_synchronization.Symbol.routine tlvs.next_synchronization.ended
+      (λ κs a r e. r ≡ synchronizationFound (nextSynchronization (now (a .0)) (a .1 .0)))
+  pub first-synchronization : Call tlvs.first_synchronization.Symbol.routine tlvs.first_synchronization.ended
+      (λ κs a r e. r ≡ synchronizationFound (nextSynchronization (now (a .0)) 0))
+  pub write-item : Call tlvs.write_item.Symbol.routine tlvs.write_item.ended
+      (λ κs a r e. Wrote (now (a .1 .1 .0)) (itemBytes (a .0) (now (a .1 .0))) (saidSize r) (now (e .1 .1 .0)))
+  -- the reader that keeps its bytes and its place together
+  pub read-tlvs-new : Call readers.new.Symbol.routine readers.new.ended
+      (λ κs a r e. (r .bytes ≡ a .0) × (r .at ≡ 0))
+  pub read-tlvs-go-on : Call readers.go_on.Symbol.routine readers.go_on.ended
+      (λ κs a r e. (r .bytes ≡ a .0 .bytes) × (r .at ≡ a .1 .0))
+  pub read-tlvs-next : Call readers.next.Symbol.routine readers.next.ended
+      (λ κs a r e. r ≡ stepAt (now (a .0 .bytes)) (a .0 .at))
+  pub read-tlvs-first-data-path : Call readers.first_data_path.Symbol.routine readers.first_data_path.ended
+      (λ κs a r e. saidFoundDataPath r ≡ nextDataPath (now (a .0 .bytes)) (a .0 .at))
+  pub read-tlvs-first-synchronization : Call readers.first_synchronization.Symbol.routine readers.first_synchronization.ended
+      (λ κs a r e. r ≡ synchronizationFound (nextSynchronization (now (a .0 .bytes)) (a .0 .at)))
+  -- frames: the header, the tail, the writer; the gap between the stamps
+  pub frame-read : Call frames.read.Symbol.routine frames.read.ended
+      (λ κs a r e. saidFrame r ≡ header (now (a .0)) 0)
+  pub frame-tail : Call frames.tail.Symbol.routine frames.tail.ended
+      (λ κs a r e. now r ≡ tailOf (now (a .0)))
+  pub frame-write : Call frames.write.Symbol.routine frames.write.ended
+      (λ κs a r e. Wrote (now (a .1 .1 .0)) (answer (F.bytesOf (a .0) (now (a .1 .0)))) (saidSize r) (now (e .1 .1 .0)))
+  pub tx-delta : Call stamps.tx_delta.Symbol.routine stamps.tx_delta.ended
+      (λ κs a r e. saidDelta r ≡ delta (a .0 .0) (a .1 .0 .0))
+  -- the report: its first mark, and the line at a mark in the buffer that was lent
+  pub report-start : Call report.start.Symbol.routine report.start.ended
+      (λ κs a r e. r ≡ firstMark (now (a .0)))
+  pub report-next-line : Call report.next_line.Symbol.routine report.next_line.ended
+      (λ κs a r e. Shows (now (a .1 .1 .0)) (standsAt (now (a .0)) (a .1 .0)) r (now (e .1 .1 .0)))
+
+pub every-call : EveryCall
+every-call =
+    record {
+      u8-at = λ M. wire.u8_at.Met.met;
+      u16-at = λ M. wire.u16_at.Met.met;
+      u32-at = λ M. wire.u32_at.Met.met;
+      address-at = λ M. wire.address_at.Met.met;
+      field-at = λ M. wire.field_at.Met.met;
+      put-u8 = λ M. wire.put_u8.Met.met;
+      put-u16 = λ M. wire.put_u16.Met.met;
+      put-u32 = λ M. wire.put_u32.Met.met;
+      put-address = λ M. wire.put_address.Met.met;
+      put-slice = λ M. wire.put_slice.Met.met;
+      within = λ M. wire.within.Met.met;
+      refusal-number = λ M. refusals.number.Met.met;
+      encoding-from-bits = λ M. encodings.from_bits.Met.met;
+      encoding-entry-size = λ M. encodings.entry_size.Met.met;
+      encoding-size = λ M. encodings.size.Met.met;
+      legacy-flags-from-bits = λ M. flags.from_bits.Met.met;
+      legacy-flags-support-channel = λ M. flags.support_channel.Met.met;
+      legacy-flags-channel-bandwidth = λ M. flags.channel_bandwidth.Met.met;
+      legacy-flags-band = λ M. flags.band.Met.met;
+      corrected-channel = λ M. channels.channel.Met.met;
+      sequence-read = λ M. sequences.read.Met.met;
+      sequence-consistent = λ M. sequences.consistent.Met.met;
+      sequence-size = λ M. sequences.size.Met.met;
+      sequence-write = λ M. sequences.write.Met.met;
+      sequence-fixed-channel-sequence = λ M. sequences.fixed_channel_sequence.Met.met;
+      data-path-read = λ M. data-paths.read.Met.met;
+      data-path-consistent = λ M. data-paths.consistent.Met.met;
+      data-path-size = λ M. data-paths.size.Met.met;
+      data-path-mend = λ M. data-paths.mend.Met.met;
+      data-path-write = λ M. data-paths.write.Met.met;
+      data-path-head = λ M. fields.read_head.Met.met;
+      data-path-body = λ M. fields.read_body.Met.met;
+      channel-word-from-u16 = λ M. words.from_u16.Met.met;
+      channel-word-as-u16 = λ M. words.as_u16.Met.met;
+      unicast-options-from-bits = λ M. options.from_bits.Met.met;
+      extended-flags-from-bits = λ M. extended.from_bits.Met.met;
+      synchronization-read = λ M. synchronizations.read.Met.met;
+      synchronization-write = λ M. synchronizations.write.Met.met;
+      step = λ M. tlvs.step.Met.met;
+      value = λ M. tlvs.value.Met.met;
+      end = λ M. tlvs.end.Met.met;
+      next-data-path = λ M. tlvs.next_data_path.Met.met;
+      first-data-path = λ M. tlvs.first_data_path.Met.met;
+      next-synchronization = λ M. tlvs.next_synchronization.Met.met;
+      first-synchronization = λ M. tlvs.first_synchronization.Met.met;
+      write-item = λ M. tlvs.write_item.Met.met;
+      read-tlvs-new = λ M. readers.new.Met.met;
+      read-tlvs-go-on = λ M. readers.go_on.Met.met;
+      read-tlvs-next = λ M. readers.next.Met.met;
+      read-tlvs-first-data-path = λ M. readers.first_data_path.Met.met;
+      read-tlvs-first-synchronization = λ M. readers.first_synchronization.Met.met;
+      frame-read = λ M. frames.read.Met.met;
+      frame-tail = λ M. frames.tail.Met.met;
+      frame-write = λ M. frames.write.Met.met;
+      tx-delta = λ M. stamps.tx_delta.Met.met;
+      report-start = λ M. report.start.Met.met;
+      report-next-line = λ M. report.next_line.Met.met;
+    }

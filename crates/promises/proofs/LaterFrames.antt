@@ -1,0 +1,82 @@
+-- A later frame has the header of the frame and the items that its changes made of the frame's, so that the laws of items and of headers give the rest.
+-- Assumes nothing.
+use Prim.Native.Nat.{ℕ}
+use native.Mathlib.Omega.{arith}
+use mathlib.Core.Path.{_≡_, refl, sym, ap, _∙_}
+use mathlib.Core.List.{List, [], _∷_, _++_, append-assoc}
+use lib.ListN.{length, take, take-append-drop}
+use lib.Seq.{length-take-le, take-at, drop-at}
+use Rattle.wire.specs.Reading.{Reader}
+use Rattle.wire.proofs.Lawful.{Same}
+use Rattle.data_path_state.specs.DataPath.{dataPath}
+use Rattle.synchronization_parameters.specs.SynchronizationReader.{synchronization}
+use Rattle.tlvs.specs.Walk.{whole, walk}
+use Rattle.tlvs.specs.ItemBytes.{laidOut}
+use Rattle.action_frame.specs.Frames.{header, tailOf}
+use Rattle.action_frame.proofs.RoundTrip.{header-lawful}
+use Rattle.tlvs.specs.Sent.{AllSendable, Sent, sentIn, tailWith}
+use Rattle.promises.specs.Later.{Change, behind, none, more, WholeFrame, Later, records, received}
+use Rattle.promises.proofs.Tails.{spelt, found-again}
+use Rattle.promises.proofs.Takes.{header-size}
+use Rattle.promises.proofs.Changes.{recordsOf, records-sent, synchronizations-kept, data-paths-kept, changes-fit}
+
+pub whole-written : (frame : List ℕ) → WholeFrame frame → frame ≡ take 12 frame ++ tailWith (sentIn (tailOf frame))
+whole-written frame w =
+    let s = spelt (tailOf frame) (w .bytes) (w .ending) in
+    rw (s .bytes) (sym (take-append-drop 12 frame))
+
+changed-tail : (front : List Sent) {items changed : List Sent} → Change items changed → Change (front ++ items) (front ++ changed)
+changed-tail [] c = c
+changed-tail (it ∷ front) c = behind it (changed-tail front c)
+
+tail-append : (front back : List Sent) → tailWith (front ++ back) ≡ tailWith front ++ tailWith back
+tail-append [] back = refl
+tail-append (it ∷ front) back =
+    ap (λ (r : List ℕ). laidOut (it .type) (it .value) ++ r) (tail-append front back)
+    ∙ sym (append-assoc (laidOut (it .type) (it .value)) (tailWith front) (tailWith back))
+
+-- one change at a place between items
+pub changed : (frame : List ℕ) (front : List Sent) {items changed : List Sent} → sentIn (tailOf frame) ≡ front ++ items → Change items changed
+    → Later frame (take 12 frame ++ (tailWith front ++ tailWith changed))
+changed frame front {items} {changed} e c =
+    let one : Change (sentIn (tailOf frame)) (front ++ changed) = rw e (changed-tail front c) in
+    record {
+      items = front ++ changed;
+      changes = more one none;
+      bytes = ap (λ (r : List ℕ). take 12 frame ++ r) (sym (tail-append front changed));
+    }
+
+module _ (before after : List ℕ) (w : WholeFrame before) (later : Later before after) where
+  fit : AllSendable (later .items)
+  fit = changes-fit (later .changes) (spelt (tailOf before) (w .bytes) (w .ending) .fit)
+
+  twelve : w .size ≡ 12
+  twelve = header-size before (w .accepted)
+
+  front-length : length (take 12 before) ≡ 12
+  front-length = let inside = header-lawful .ahead {s = before} {at = 0} (omega arith) (w .accepted) in length-take-le 12 before (omega (arith, twelve))
+
+  tail-after : tailOf after ≡ tailWith (later .items)
+  tail-after = rw (later .bytes) (drop-at (take 12 before) (tailWith (later .items)) 12 front-length)
+
+  front-same : Same (w .size) before after
+  front-same = rw (twelve, later .bytes) (sym (take-at (take 12 before) (tailWith (later .items)) 12 front-length))
+
+  header-after : header after 0 ≡ header before 0
+  header-after = header-lawful .local {s = before} {t = after} {at = 0} (omega arith) (w .accepted) front-same ∙ sym (w .accepted)
+
+  pub items-after : (sentIn (tailOf after) ≡ later .items) × (walk (tailOf after) .ending ≡ whole)
+  items-after = let f = found-again (later .items) fit in (rw tail-after (f .sent), rw tail-after (f .ending))
+
+  records-after : {A : Type 0} (type : ℕ) (reader : Reader A)
+      → recordsOf type reader (later .items) ≡ recordsOf type reader (sentIn (tailOf before))
+      → records type reader (tailOf after) ≡ records type reader (tailOf before)
+  records-after type reader kept =
+      records-sent type reader (tailOf after)
+      ∙ ap (recordsOf type reader) (items-after .0)
+      ∙ kept
+      ∙ sym (records-sent type reader (tailOf before))
+
+  pub received-after : received after ≡ received before
+  received-after =
+      rw (header-after, records-after 0x04 synchronization (synchronizations-kept (later .changes)), records-after 0x0C dataPath (data-paths-kept (later .changes)))

@@ -1,0 +1,12 @@
+pub mod StarredRows
+pub mod Tails
+pub mod Changes
+pub mod Takes
+pub mod LaterFrames
+pub mod Demand3
+pub mod EveryCall
+pub mod Refusing
+pub mod Demand1
+pub mod RoundTrips
+pub mod Demand2
+pub mod LaterExample

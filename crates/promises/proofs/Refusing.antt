@@ -1,0 +1,74 @@
+-- What a refusal stands for follows from what the answer says, for every answer; a buffer is touched only where nothing is refused.
+-- Assumes nothing.
+use Prim.Native.Nat.{ℕ, _≤_}
+use native.Mathlib.Omega.{arith}
+use mathlib.Core.Path.{_≡_, refl, sym, ap, _∙_}
+use mathlib.Core.Bool.{false, cond}
+use mathlib.Core.List.{List}
+use lib.Dec.{eqb}
+use Rattle.wire.specs.declared.refusal.Refusal.{Refusal}
+use Rattle.wire.specs.declared.refusal.Refusal.the-variants.{Short, NotAction, NotVersion, UnicastLength, Encoding, NoRoom, Inconsistent, TooLong, SentBeforeHandOver}
+use Rattle.wire.specs.Refusals.{numberOf}
+use Rattle.wire.specs.Reading.{Reading, refused}
+use Rattle.wire.specs.Answer.{Answer, answer, refusal}
+use Rattle.wire.specs.Outcomes.{outcome, result}
+use Rattle.wire.specs.Writing.{fits, Put, afterwards, Wrote}
+use Rattle.wire.proofs.Once.{once}
+use Rattle.promises.specs.Answers.{refusedOutcome, refusedResult, Once, Answering}
+
+pub number-range : (why : Refusal) → (1 ≤ numberOf why) × (numberOf why ≤ 9)
+number-range Short = omega arith
+number-range NotAction = omega arith
+number-range NotVersion = omega arith
+number-range UnicastLength = omega arith
+number-range Encoding = omega arith
+number-range NoRoom = omega arith
+number-range Inconsistent = omega arith
+number-range TooLong = omega arith
+number-range SentBeforeHandOver = omega arith
+
+-- the refusal that has a number
+abbrev numbered : ℕ → Refusal
+numbered n =
+    cond (eqb n 1) Short
+    (cond (eqb n 2) NotAction
+    (cond (eqb n 3) NotVersion
+    (cond (eqb n 4) UnicastLength
+    (cond (eqb n 5) Encoding
+    (cond (eqb n 6) NoRoom
+    (cond (eqb n 7) Inconsistent
+    (cond (eqb n 8) TooLong SentBeforeHandOver)))))))
+
+pub numbers-apart : (why other : Refusal) → numberOf why ≡ numberOf other → why ≡ other
+numbers-apart why other e = once numberOf numbered back e refl
+  where
+    back : (w : Refusal) → numbered (numberOf w) ≡ w
+    back Short = refl
+    back NotAction = refl
+    back NotVersion = refl
+    back UnicastLength = refl
+    back Encoding = refl
+    back NoRoom = refl
+    back Inconsistent = refl
+    back TooLong = refl
+    back SentBeforeHandOver = refl
+
+pub reader : {T A : Type 0} (said : T → Reading A) (nothing : A) (at : ℕ) → Once said
+    → Answering said refused (λ a. outcome nothing at (said a)) (refusedOutcome nothing)
+reader said nothing at only = record { once = only; refuses = λ a why e. ap (outcome nothing at) e }
+
+pub call : {T A : Type 0} (said : T → Answer A) (nothing : A) → Once said
+    → Answering said refusal (λ a. result nothing (said a)) (refusedResult nothing)
+call said nothing only = record { once = only; refuses = λ a why e. ap (result nothing) e }
+
+left : (s : List ℕ) (bytes : Answer (List ℕ)) (why : Refusal) → afterwards s bytes (refusal why) ≡ s
+left s (answer bytes) why = refl
+left s (refusal other) why = refl
+
+pub refused-buffer : (s : List ℕ) (bytes : Answer (List ℕ)) (said : Answer ℕ) (after : List ℕ) (why : Refusal)
+    → Wrote s bytes said after → said ≡ refusal why → after ≡ s
+refused-buffer s bytes said after why w e = w .buffer ∙ ap (afterwards s bytes) (sym (w .size) ∙ e) ∙ left s bytes why
+
+pub short-buffer : (s : List ℕ) (at : ℕ) (bytes : List ℕ) (next : ℕ) (after : List ℕ)
+    → Put s at bytes next after → fits s at bytes ≡ false → (next ≡ at) × (after ≡ s)
+short-buffer s at bytes next after p e = (p .place ∙ rw e, p .buffer ∙ rw e)

@@ -1,0 +1,84 @@
+-- A consistent record fills its size and is read back: one law over the format, which each crate's own round trip meets.
+-- Assumes nothing.
+use Prim.Native.Nat.{ℕ}
+use native.Mathlib.Nat.{zero-add}
+use native.Mathlib.Omega.{arith}
+use mathlib.Core.Path.{_≡_, refl, sym, ap, _∙_}
+use mathlib.Core.Bool.{true}
+use mathlib.Core.List.{List, [], _∷_, _++_}
+use lib.Dec.{leb}
+use lib.ListN.{length, drop}
+use lib.Seq.{take-append-seam}
+use borrow.Author.Tests.{le-leb}
+use Rattle.wire.specs.Reading.{Reader, read}
+use Rattle.wire.specs.Answer.{answer}
+use Rattle.wire.proofs.ReadsBack.{Back}
+use Rattle.channel_sequence.proofs.RoundTrip as Q
+use Rattle.data_path_state.specs.Bytes.{laidDown}
+use Rattle.data_path_state.proofs.Sizes.{length-laid}
+use Rattle.data_path_state.proofs.RoundTrip as D
+use Rattle.synchronization_parameters.specs.SynchronizationBytes.{bytesOf}
+use Rattle.synchronization_parameters.proofs.RoundTrip as S
+use Rattle.tlvs.specs.declared.item.Step.{Step}
+use Rattle.tlvs.specs.Walk.{whole, walk}
+use Rattle.tlvs.specs.Search.{Accepted, firstOf, nothing}
+use Rattle.tlvs.specs.ItemBytes.{laidOut}
+use Rattle.tlvs.proofs.Sizes.{sized-bytes, laid-length}
+use Rattle.tlvs.proofs.RoundTrip as T
+use Rattle.action_frame.specs.Frames as F′
+use Rattle.action_frame.proofs.RoundTrip as F
+use Rattle.tlvs.specs.Sent.{Sent, AllSendable, sentIn, tailWith}
+use Rattle.promises.specs.Formats.{Format, Fills, RoundTrip, sequences, dataPaths, synchronizations, items, frames}
+use Rattle.promises.proofs.Tails.{found-again}
+
+-- what is read back with anything behind is read back from a buffer
+fills : (F : Format) (r : F .Record) (bytes : List ℕ) → F .bytes r ≡ answer bytes → F .size r ≡ answer (length bytes)
+    → ((behind : List ℕ) → F .Found r (bytes ++ behind) (length bytes)) → Fills F r
+fills F r bytes written size found =
+    record {
+      bytes = bytes;
+      written = written;
+      size = size;
+      found = found;
+      filled = λ s said after room w.
+          let fits : leb (length bytes) (length s) ≡ true = le-leb (length bytes) (length s) room in
+          let down : after ≡ bytes ++ drop (length bytes) s = w .buffer ∙ rw (written, fits) in
+          (w .size ∙ rw (written, fits), down, rw down (found (drop (length bytes) s)));
+    }
+
+-- from the start of the bytes
+start : {A : Type 0} {r : Reader A} {bytes : List ℕ} {a : A} → Back r bytes a → (behind : List ℕ) → r (bytes ++ behind) 0 ≡ read a (length bytes)
+start {bytes = bytes} {a = a} b behind = b .back [] behind ∙ ap (read a) (zero-add (length bytes))
+
+pub sequence-round : RoundTrip sequences
+sequence-round q ok = let w = Q.round-trip q (ok .0) (ok .1) in fills sequences q (w .bytes) (w .written) (w .size) (start (w .back))
+
+pub data-path-round : RoundTrip dataPaths
+data-path-round r ok =
+    fills dataPaths r (laidDown r) (rw (ok .1)) (rw (ok .1, length-laid r (ok .1))) (start (D.record-back r (ok .0) (ok .1)))
+
+pub synchronization-round : RoundTrip synchronizations
+synchronization-round p ok =
+    fills synchronizations p (bytesOf p) refl (ap answer (sym (S.length-bytes p))) (start (S.synchronization-back p ok))
+
+pub item-round : RoundTrip items
+item-round it ok =
+    let fits : leb (length (it .value)) 65535 ≡ true = le-leb (length (it .value)) 65535 (ok .short) in
+    fills items it (laidOut (it .type) (it .value)) (sized-bytes (it .type) (it .value) (ok .short))
+    (rw fits (ap answer (sym (laid-length (it .type) (it .value)))))
+    (λ behind. (T.step-back it ok [] behind ∙ ap (Step.Item (T.itemAt 0 it)) (zero-add (length (T.bytesOf it))), T.value-back it [] behind))
+
+pub frame-round : RoundTrip frames
+frame-round f ok =
+    let bytes : List ℕ = F′.bytesOf (f .head) (f .tail) in
+    let w = F.round-trip (f .head) (f .tail) ok in
+    fills frames f bytes refl (ap answer (sym (w .size)))
+    (λ behind. (w .head behind, ap F′.tailOf (take-append-seam bytes behind) ∙ w .rest))
+
+pub tail-round : (its : List Sent) → AllSendable its → (sentIn (tailWith its) ≡ its) × (walk (tailWith its) .ending ≡ whole)
+tail-round its ok = let w = found-again its ok in (w .sent, w .ending)
+
+-- nothing is found where there is nothing
+pub found-none : {A : Type 0} (xs : List (Accepted A)) → firstOf xs ≡ nothing → xs ≡ []
+found-none [] e = refl
+found-none (x ∷ xs) e = absurd (let z : _≡_ {A = ℕ} 0 1 = cc in omega arith)

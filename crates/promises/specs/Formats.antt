@@ -1,0 +1,112 @@
+-- What is written, and what is read back of it.
+use mathlib.Core.Path.{_≡_}
+use Prim.Native.Nat.{ℕ, _+_, _≤_}
+use mathlib.Core.Bool.{true}
+use mathlib.Core.List.{List, _++_}
+use lib.ListN.{length, take, drop}
+use Rattle.wire.specs.Reading.{read}
+use Rattle.wire.specs.Numbers.{Fits}
+use Rattle.wire.specs.Answer.{Answer, answer}
+use Rattle.wire.specs.Writing.{Wrote}
+use Rattle.channel_sequence.specs.declared.channel_sequence.ChannelSequence.{ChannelSequence}
+use Rattle.channel_sequence.specs.Sequences as Q
+use Rattle.channel_sequence.specs.SequenceReader.{sequence}
+use Rattle.data_path_state.specs.declared.data_path_state_tlv.DataPathStateTLV.{DataPathStateTLV}
+use Rattle.data_path_state.specs.DataPath.{dataPath}
+use Rattle.data_path_state.specs.Ranges.{Ranges}
+use Rattle.data_path_state.specs.Consistent.{consistent}
+use Rattle.data_path_state.specs.Bytes as D
+use Rattle.synchronization_parameters.specs.declared.synchronization_parameters_tlv.SynchronizationParametersTLV.{SynchronizationParametersTLV}
+use Rattle.synchronization_parameters.specs.SynchronizationReader.{synchronization}
+use Rattle.synchronization_parameters.specs.SynchronizationBytes as S
+use Rattle.tlvs.specs.declared.item.Item.{Item}
+use Rattle.tlvs.specs.declared.item.Step.{Step}
+use Rattle.tlvs.specs.Items.{stepAt, valueOf}
+use Rattle.tlvs.specs.ItemBytes.{itemBytes, itemSize}
+use Rattle.tlvs.specs.Sent.{Sent, Sendable}
+use Rattle.action_frame.specs.declared.AWDLActionFrame.{AWDLActionFrame}
+use Rattle.action_frame.specs.Frames as F
+use Rattle.action_frame.specs.Frames.{header, tailOf}
+
+-- what is written of a record and how long that is, when it is consistent, and what it is to find it at the start of some
+-- bytes, with its size. A sequence's reader is told the encoding.
+pub record Format : Type 1 where
+  pub Record : Type 0
+  pub bytes : Record → Answer (List ℕ)
+  pub size : Record → Answer ℕ
+  pub Consistent : Record → Type 0
+  pub Found : Record → List ℕ → ℕ → Type 0
+
+-- of a record: it is written as some bytes, and its size is their number; they are read back as the record, with anything
+-- behind them. A writer with enough room answers the size and puts them down, and what stood behind them still stands there.
+pub record Fills (F : Format) (r : F .Record) : Type 0 where
+  pub bytes : List ℕ
+  pub written : F .bytes r ≡ answer bytes
+  pub size : F .size r ≡ answer (length bytes)
+  pub found : (behind : List ℕ) → F .Found r (bytes ++ behind) (length bytes)
+  pub filled : (s : List ℕ) (said : Answer ℕ) (after : List ℕ) → length bytes ≤ length s → Wrote s (F .bytes r) said after
+      → (said ≡ answer (length bytes)) × (after ≡ bytes ++ drop (length bytes) s) × F .Found r after (length bytes)
+
+-- every consistent record of a format
+abbrev pub RoundTrip : Format → Type 0
+RoundTrip F = (r : F .Record) → F .Consistent r → Fills F r
+
+abbrev pub sequences : Format
+sequences =
+    record {
+      Record = ChannelSequence;
+      bytes = Q.bytesOf;
+      size = Q.sizeOf;
+      Consistent = λ q. (length (q .bytes) ≡ 32) × (Q.consistent q ≡ answer true);
+      Found = λ q s n. sequence (q .encoding) s 0 ≡ read q n;
+    }
+
+abbrev pub dataPaths : Format
+dataPaths =
+    record {
+      Record = DataPathStateTLV;
+      bytes = D.bytesOf;
+      size = D.sizeOf;
+      Consistent = λ r. Ranges r × (consistent r ≡ true);
+      Found = λ r s n. dataPath s 0 ≡ read r n;
+    }
+
+-- every record is consistent, and takes 33 bytes
+abbrev pub synchronizations : Format
+synchronizations =
+    record {
+      Record = SynchronizationParametersTLV;
+      bytes = λ p. answer (S.bytesOf p);
+      size = λ p. answer 33;
+      Consistent = λ p. Fits (S.numbers p);
+      Found = λ p s n. synchronization s 0 ≡ read p n;
+    }
+
+-- a step of the walk finds the item, and its value
+abbrev pub items : Format
+items =
+    record {
+      Record = Sent;
+      bytes = λ it. itemBytes (it .type) (it .value);
+      size = λ it. itemSize (length (it .value));
+      Consistent = Sendable;
+      Found = λ it s n.
+          let numbers : Item = record { at = 0; «tlv_type» = it .type; length = length (it .value) } in
+          (stepAt s 0 ≡ Step.Item numbers n) × (valueOf s numbers ≡ it .value);
+    }
+
+-- a header and the tail behind it
+pub record Frame : Type 0 where
+  pub head : AWDLActionFrame
+  pub tail : List ℕ
+
+-- the tail of a frame goes to the frame's end
+abbrev pub frames : Format
+frames =
+    record {
+      Record = Frame;
+      bytes = λ f. answer (F.bytesOf (f .head) (f .tail));
+      size = λ f. answer (12 + length (f .tail));
+      Consistent = λ f. F.InWidth (f .head);
+      Found = λ f s n. (header s 0 ≡ read (f .head) 12) × (tailOf (take n s) ≡ f .tail);
+    }

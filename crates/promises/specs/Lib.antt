@@ -1,0 +1,7 @@
+-- Rows: the starred rows of the table of bytes at the edges. Later: how a later sender's frame comes from a frame. Calls:
+-- what is proved of a call.
+pub mod Rows
+pub mod Later
+pub mod Calls
+pub mod Answers
+pub mod Formats

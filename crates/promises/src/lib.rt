@@ -1,0 +1,1 @@
+// No code: what the library promises stands in specs/ and is proved in proofs/.
