@@ -10,7 +10,7 @@ use data_path_fields::UnicastOptions;
 use wire::MACAddress;
 
 // The tests below have no branches: each is a formula, as its definition is.
-fn flags_match(r: DataPathStateTLV) -> bool
+pub(crate) fn flags_match(r: DataPathStateTLV) -> bool
     ensures { λ t. ⌜ t ≡ C.flagsMatch r ⌝ }
 {
     let w = r.flags.0;
@@ -23,7 +23,7 @@ fn flags_match(r: DataPathStateTLV) -> bool
         & ((w / DataPathFlags::EXTENDED_FLAGS % 2 == 1) == r.extended_flags.present)
 }
 
-fn extended_match(r: DataPathStateTLV) -> bool
+pub(crate) fn extended_match(r: DataPathStateTLV) -> bool
     ensures { λ t. ⌜ t ≡ C.extendedMatch r ⌝ }
 {
     let w = r.extended_flags.flags.0;
@@ -32,7 +32,7 @@ fn extended_match(r: DataPathStateTLV) -> bool
         & ((w / DataPathExtendedFlags::STATS_PRESENT % 2 == 1) == r.stats.present)
 }
 
-fn only_with(r: DataPathStateTLV) -> bool
+pub(crate) fn only_with(r: DataPathStateTLV) -> bool
     ensures { λ t. ⌜ t ≡ C.onlyWith r ⌝ }
 {
     (!r.unicast_options_ext.present | r.unicast_options.present)
@@ -41,7 +41,7 @@ fn only_with(r: DataPathStateTLV) -> bool
         & (!r.stats.present | r.extended_flags.present)
 }
 
-fn channel_right(c: DataPathChannel) -> bool
+pub(crate) fn channel_right(c: DataPathChannel) -> bool
     ensures { λ t. ⌜ t ≡ C.channelRight c ⌝ }
 {
     match c {
@@ -50,7 +50,7 @@ fn channel_right(c: DataPathChannel) -> bool
     }
 }
 
-fn words_kept(r: DataPathStateTLV) -> bool
+pub(crate) fn words_kept(r: DataPathStateTLV) -> bool
     ensures { λ t. ⌜ t ≡ C.wordsKept r ⌝ }
 {
     let extended = r.extended_flags.flags.0;
@@ -80,7 +80,7 @@ fn is_zero_stats(s: DataPathStats) -> bool
     (s.msec_since_activation == 0) & (s.aw_seq_counter == 0) & (s.pay_update_coutner == 0)
 }
 
-fn absent_zero(r: DataPathStateTLV) -> bool
+pub(crate) fn absent_zero(r: DataPathStateTLV) -> bool
     ensures { λ t. ⌜ t ≡ C.absentZero r ⌝ }
 {
     let word = r.channel_map;
@@ -97,17 +97,4 @@ fn absent_zero(r: DataPathStateTLV) -> bool
         & (r.rlfc.present | (r.rlfc.word == 0))
         & (r.log_trigger_id.present | (r.log_trigger_id.id == 0))
         & (r.stats.present | is_zero_stats(r.stats.stats))
-}
-
-pub(crate) fn is_consistent(r: DataPathStateTLV) -> bool
-    ensures { λ t. ⌜ t ≡ C.consistent r ⌝ }
-{
-    let word = r.channel_map;
-    let channel = word.channel;
-    flags_match(r)
-        & extended_match(r)
-        & only_with(r)
-        & channel_right(channel)
-        & words_kept(r)
-        & absent_zero(r)
 }

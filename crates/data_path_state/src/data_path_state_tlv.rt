@@ -73,20 +73,40 @@ impl DataPathStateTLV {
     pub fn consistent(self) -> bool
         ensures { λ r. ⌜ r ≡ C.consistent self ⌝ }
     {
-        consistent::is_consistent(self)
+        let word = self.channel_map;
+        let channel = word.channel;
+        consistent::flags_match(self)
+            & consistent::extended_match(self)
+            & consistent::only_with(self)
+            & consistent::channel_right(channel)
+            & consistent::words_kept(self)
+            & consistent::absent_zero(self)
     }
 
     // What the Rust's writer does before it writes. A channel that is there is left as it is.
     pub fn mend(self) -> DataPathStateTLV
         ensures { λ r. ⌜ r ≡ mended self ⌝ }
     {
-        mend::mend_record(self)
+        DataPathStateTLV {
+            flags: mend::mend_flags(self),
+            country_code: mend::mend_country(self.country_code),
+            channel_map: mend::mend_channel(self.channel_map),
+            infra_bssid_channel: mend::mend_infra(self.infra_bssid_channel),
+            infra_address: mend::mend_address(self.infra_address),
+            awdl_address: mend::mend_address(self.awdl_address),
+            unicast_options: mend::mend_options(self),
+            unicast_options_ext: mend::mend_word(self.unicast_options_ext),
+            extended_flags: mend::mend_extended(self),
+            rlfc: mend::mend_word(self.rlfc),
+            log_trigger_id: mend::mend_trigger_id(self.log_trigger_id),
+            stats: mend::mend_stats(self.stats),
+        }
     }
 
     pub fn size(self) -> Size
         ensures { λ r. ⌜ saidSize r ≡ sizeOf self ⌝ }
     {
-        if consistent::is_consistent(self) {
+        if self.consistent() {
             return Size::Bytes(write::sum(self));
         }
         Size::Refused(Refusal::Inconsistent)

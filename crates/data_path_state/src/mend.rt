@@ -33,7 +33,7 @@ fn bit(present: bool, value: u16) -> u16
     if present { value } else { 0 }
 }
 
-fn mend_country(c: CountryCode) -> CountryCode
+pub(crate) fn mend_country(c: CountryCode) -> CountryCode
     ensures { λ r. ⌜ r ≡ cond (c .present) c noCountry ⌝ }
 {
     if c.present {
@@ -47,7 +47,7 @@ fn mend_country(c: CountryCode) -> CountryCode
 }
 
 // A channel that is there is left as it is, also where it is wrong.
-fn mend_channel(c: OptionalChannel) -> OptionalChannel
+pub(crate) fn mend_channel(c: OptionalChannel) -> OptionalChannel
     ensures { λ r. ⌜ r ≡ cond (c .present) c noChannel ⌝ }
 {
     if c.present {
@@ -60,7 +60,7 @@ fn mend_channel(c: OptionalChannel) -> OptionalChannel
     }
 }
 
-fn mend_infra(i: InfraBssidChannel) -> InfraBssidChannel
+pub(crate) fn mend_infra(i: InfraBssidChannel) -> InfraBssidChannel
     ensures { λ r. ⌜ r ≡ cond (i .present) i noInfra ⌝ }
 {
     if i.present {
@@ -74,7 +74,7 @@ fn mend_infra(i: InfraBssidChannel) -> InfraBssidChannel
     }
 }
 
-fn mend_address(a: OptionalAddress) -> OptionalAddress
+pub(crate) fn mend_address(a: OptionalAddress) -> OptionalAddress
     ensures { λ r. ⌜ r ≡ cond (a .present) a noAddress ⌝ }
 {
     if a.present {
@@ -87,7 +87,7 @@ fn mend_address(a: OptionalAddress) -> OptionalAddress
     }
 }
 
-fn mend_word(w: OptionalWord) -> OptionalWord
+pub(crate) fn mend_word(w: OptionalWord) -> OptionalWord
     ensures { λ r. ⌜ r ≡ cond (w .present) w noWord ⌝ }
 {
     if w.present {
@@ -99,7 +99,7 @@ fn mend_word(w: OptionalWord) -> OptionalWord
     }
 }
 
-fn mend_trigger_id(t: OptionalTriggerId) -> OptionalTriggerId
+pub(crate) fn mend_trigger_id(t: OptionalTriggerId) -> OptionalTriggerId
     ensures { λ r. ⌜ r ≡ cond (t .present) t noTriggerId ⌝ }
 {
     if t.present {
@@ -111,7 +111,7 @@ fn mend_trigger_id(t: OptionalTriggerId) -> OptionalTriggerId
     }
 }
 
-fn mend_stats(s: OptionalStats) -> OptionalStats
+pub(crate) fn mend_stats(s: OptionalStats) -> OptionalStats
     ensures { λ r. ⌜ r ≡ cond (s .present) s noStats ⌝ }
 {
     if s.present {
@@ -128,7 +128,7 @@ fn mend_stats(s: OptionalStats) -> OptionalStats
     }
 }
 
-fn mend_options(r: DataPathStateTLV) -> OptionalOptions
+pub(crate) fn mend_options(r: DataPathStateTLV) -> OptionalOptions
     ensures { λ o. ⌜ o ≡ M.mendedOptions r ⌝ }
 {
     let present = r.unicast_options.present | r.unicast_options_ext.present;
@@ -153,7 +153,7 @@ fn extended_word(e: OptionalExtendedFlags) -> u16
     if e.present { e.flags.0 } else { 0 }
 }
 
-fn mend_extended(r: DataPathStateTLV) -> OptionalExtendedFlags
+pub(crate) fn mend_extended(r: DataPathStateTLV) -> OptionalExtendedFlags
     ensures { λ e. ⌜ e ≡ M.mendedExtended r ⌝ }
 {
     let word = extended_word(r.extended_flags) & OTHER_EXTENDED;
@@ -170,7 +170,7 @@ fn mend_extended(r: DataPathStateTLV) -> OptionalExtendedFlags
     OptionalExtendedFlags { present, flags }
 }
 
-fn mend_flags(r: DataPathStateTLV) -> DataPathFlags
+pub(crate) fn mend_flags(r: DataPathStateTLV) -> DataPathFlags
     ensures { λ f. ⌜ f ≡ M.mendedFlags r ⌝ }
 {
     let has_options = r.unicast_options.present | r.unicast_options_ext.present;
@@ -191,23 +191,4 @@ fn mend_flags(r: DataPathStateTLV) -> DataPathFlags
             + bit(has_options, DataPathFlags::UNICAST_OPTIONS_PRESENT)
             + bit(has_extended(r), DataPathFlags::EXTENDED_FLAGS),
     )
-}
-
-pub(crate) fn mend_record(r: DataPathStateTLV) -> DataPathStateTLV
-    ensures { λ m. ⌜ m ≡ M.mended r ⌝ }
-{
-    DataPathStateTLV {
-        flags: mend_flags(r),
-        country_code: mend_country(r.country_code),
-        channel_map: mend_channel(r.channel_map),
-        infra_bssid_channel: mend_infra(r.infra_bssid_channel),
-        infra_address: mend_address(r.infra_address),
-        awdl_address: mend_address(r.awdl_address),
-        unicast_options: mend_options(r),
-        unicast_options_ext: mend_word(r.unicast_options_ext),
-        extended_flags: mend_extended(r),
-        rlfc: mend_word(r.rlfc),
-        log_trigger_id: mend_trigger_id(r.log_trigger_id),
-        stats: mend_stats(r.stats),
-    }
 }

@@ -4,17 +4,17 @@ use Rattle.data_path_state.proofs.data_path_state_tlv.DataPathStateTLV.
 use Rattle.data_path_state.proofs.data_path_state_tlv.DataPathStateTLV.size.Tie as tie
 use borrow.Author.Needs.{needs}
 
-is-consistent-requires : tie.Need-is-consistent-requires
-is-consistent-requires c κs = search needs
+consistent-requires : tie.Need-consistent-requires
+consistent-requires c κs = search needs
 
 sum-requires : tie.Need-sum-requires
 sum-requires c κs = search needs
 
 returns : tie.Need-returns
-returns c = rw (← c .before .before .is-consistent .ensures, c .before .if1 .taken, c .sum .ensures)
+returns c = rw (← c .before .before .consistent .ensures, c .before .if1 .taken, c .sum .ensures)
 
 returns-2 : tie.Need-returns-2
-returns-2 c = rw (← c .before .is-consistent .ensures, c .if1 .left)
+returns-2 c = rw (← c .before .consistent .ensures, c .if1 .left)
 
 pub size-spec : {M : Type 1} → statement M
-size-spec = tie.close (tie.spec is-consistent-requires sum-requires returns returns-2)
+size-spec = tie.close (tie.spec consistent-requires sum-requires returns returns-2)

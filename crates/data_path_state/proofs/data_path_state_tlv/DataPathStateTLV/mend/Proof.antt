@@ -1,7 +1,7 @@
--- `mend_record` meets its contract: each field is mended by itself.
+-- `DataPathStateTLV::mend` meets its contract: each field is mended by itself.
 -- Assumes nothing.
-use Rattle.data_path_state.proofs.mend.mend_record.Statement.{statement}
-use Rattle.data_path_state.proofs.mend.mend_record.Tie as tie
+use Rattle.data_path_state.proofs.data_path_state_tlv.DataPathStateTLV.mend.Statement.{statement}
+use Rattle.data_path_state.proofs.data_path_state_tlv.DataPathStateTLV.mend.Tie as tie
 use Rattle.data_path_state.specs.Mended.{mended}
 use borrow.Author.Needs.{needs}
 
@@ -59,8 +59,8 @@ returns c =
       c .mend-stats .ensures,
     )
 
-pub mend-record-spec : {M : Type 1} → statement M
-mend-record-spec =
+pub mend-spec : {M : Type 1} → statement M
+mend-spec =
     tie.close
     (tie.spec
     mend-flags-requires

@@ -1,7 +1,7 @@
--- `is_consistent` meets its contract: it is the six tests together.
+-- `DataPathStateTLV::consistent` meets its contract: it is the six tests together.
 -- Assumes nothing.
-use Rattle.data_path_state.proofs.consistent.is_consistent.Statement.{statement}
-use Rattle.data_path_state.proofs.consistent.is_consistent.Tie as tie
+use Rattle.data_path_state.proofs.data_path_state_tlv.DataPathStateTLV.consistent.Statement.{statement}
+use Rattle.data_path_state.proofs.data_path_state_tlv.DataPathStateTLV.consistent.Tie as tie
 use Rattle.data_path_state.specs.Consistent.{consistent}
 use borrow.Author.Needs.{needs}
 
@@ -35,8 +35,8 @@ returns c =
       c .absent-zero .ensures,
     )
 
-pub is-consistent-spec : {M : Type 1} → statement M
-is-consistent-spec =
+pub consistent-spec : {M : Type 1} → statement M
+consistent-spec =
     tie.close
     (tie.spec
     flags-match-requires
