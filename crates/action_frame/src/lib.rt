@@ -90,7 +90,7 @@ impl AWDLActionFrame {
 
 // How long the frame waited between the driver and the air.
 pub fn tx_delta(phy: PhyTxTime, target: TargetTxTime) -> Delta
-    ensures { λ r. ⌜ saidDelta r ≡ delta (phy .0) (target .0) ⌝ }
+    ensures { λ r. ⌜ saidDelta r ≡ delta phy target ⌝ }
 {
     let sent = phy.0;
     let handed_over = target.0;

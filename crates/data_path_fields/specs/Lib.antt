@@ -1,4 +1,6 @@
--- Words: kept bits and the channel word; Fields: how the fields are read; Said: what each answer of the code says.
+-- Words: kept bits and the channel word; Fields: how the fields are read; Said and Outcomes: what each answer
+-- of the code says, and the number and values that it stands for.
 pub mod Words
 pub mod Fields
 pub mod Said
+pub mod Outcomes

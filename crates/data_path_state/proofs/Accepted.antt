@@ -2,13 +2,13 @@
 -- Assumes nothing.
 use Prim.Native.Nat.{ℕ, _%_, _^_}
 use native.Mathlib.Omega.{arith}
-use mathlib.Core.Path.{_≡_, refl, sym}
-use mathlib.Core.Bool.{Bool, true, false, not, cond, _&&_, _||_, Bool·beq}
-use mathlib.Core.List.{List, [], _∷_}
-use lib.Dec.{eqb, leb}
+use mathlib.Core.Path.{_≡_, refl}
+use mathlib.Core.Bool.{Bool, true, false, not, cond, _&&_, _||_}
+use mathlib.Core.List.{[], _∷_}
+use lib.Dec.{eqb}
 use borrow.Author.Tests.{eq-eqb, eqb-true, eqb-false, le-leb}
 use Rattle.wire.specs.declared.refusal.Refusal.the-variants.{UnicastLength}
-use Rattle.wire.specs.Reading.{Reader, read, field, when}
+use Rattle.wire.specs.Reading.{field, when}
 use Rattle.wire.specs.Numbers.{number, bit, bits}
 use Rattle.wire.specs.Addresses.{address}
 use Rattle.wire.specs.Words.{laid}
@@ -16,7 +16,6 @@ use Rattle.wire.proofs.Gives.{Gives, gives-any, gives-give, gives-refuse, gives
 use Rattle.wire.proofs.Tests.{joined, same-as}
 use Rattle.wire.proofs.Words.{laid-twice}
 use Rattle.data_path_fields.specs.declared.misc.DataPathChannel.{DataPathChannel}
-use Rattle.data_path_state.specs.declared.data_path_state_tlv.DataPathStateTLV.{DataPathStateTLV}
 use Rattle.data_path_fields.specs.declared.fields.OptionalAddress.{OptionalAddress}
 use Rattle.data_path_fields.specs.declared.fields.OptionalWord.{OptionalWord}
 use Rattle.data_path_fields.specs.declared.read.Head.{Head}
@@ -26,9 +25,9 @@ use Rattle.data_path_fields.specs.declared.read.Extended.{Extended}
 use Rattle.data_path_fields.specs.declared.read.Body.{Body}
 use Rattle.data_path_fields.specs.Words.{extendedKept, optionsKept, channelOf}
 use Rattle.data_path_fields.specs.Fields.{noCountry, noChannel, head, noInfra, noAddress, oneAddress, addresses, noWord, oneWord, optionsAnd, noUnicast, unicast}
-use Rattle.data_path_fields.specs.Fields.{noTriggerId, triggerId, noStats, stats, noExtended, extendedOf, extended, body}
+use Rattle.data_path_fields.specs.Fields.{noTriggerId, noStats, stats, noExtended, extendedOf, extended, body}
 use Rattle.data_path_state.specs.DataPath.{whole, dataPath}
-use Rattle.data_path_state.specs.Consistent.{isZeroAddress, isZeroChannel, isZeroStats, channelRight, flagsMatch, extendedMatch, onlyWith, wordsKept, absentZero, consistent}
+use Rattle.data_path_state.specs.Consistent.{isZeroAddress, isZeroChannel, isZeroStats, channelRight, consistent}
 
 -- there exactly where the bit is set, and zero elsewhere
 abbrev Is : Bool → Bool → Bool → Type 0

@@ -6,7 +6,7 @@ use mathlib.Core.Bool.{Bool, true, false, cond}
 use mathlib.Core.List.{List, [], _++_, append-assoc}
 use lib.Dec.{eqb}
 use Rattle.wire.specs.declared.refusal.Refusal.the-variants.{UnicastLength}
-use Rattle.wire.specs.Reading.{Reader, field, give, when, _>>=_}
+use Rattle.wire.specs.Reading.{Reader, field, give, _>>=_}
 use Rattle.wire.specs.Numbers.{number, littleBytes, bit}
 use Rattle.wire.specs.Addresses.{address}
 use Rattle.wire.specs.Words.{laid}

@@ -6,7 +6,7 @@ use Rattle.wire.proofs.Tests.{nth}
 use Rattle.data_path_state.proofs.Facts.{_and_, adds-none, last-of, one-of, neither, number-same}
 use Rattle.data_path_state.proofs.Optional as O
 use Rattle.data_path_state.specs.Bytes.{counted, sum}
-use Rattle.data_path_state.specs.Consistent.{flagsMatch, extendedMatch, onlyWith, channelRight, wordsKept, absentZero, consistent}
+use Rattle.data_path_state.specs.Consistent.{flagsMatch, extendedMatch, onlyWith, channelRight, wordsKept, absentZero, consistent, ChannelRight}
 use Rattle.data_path_state.specs.Mended.{mended, hasOptions, hasExtended, extendedRuns, flagsRuns}
 use Rattle.data_path_fields.specs.Words.{extendedKept, optionsKept}
 use Rattle.data_path_state.specs.declared.data_path_state_tlv.DataPathStateTLV.{DataPathStateTLV}
@@ -237,10 +237,6 @@ mended-elsewhere r =
       words = mended-words r;
       absent = mended-absent r;
     }
-
--- a channel that is there is right
-abbrev pub ChannelRight : DataPathStateTLV → Type 0
-ChannelRight r = r .«channel_map» .present ≡ true → channelRight (r .«channel_map» .channel) ≡ true
 
 mended-channel : (r : DataPathStateTLV) → ChannelRight r → channelRight (mended r .«channel_map» .channel) ≡ true
 unfolding mended

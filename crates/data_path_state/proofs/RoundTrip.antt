@@ -4,7 +4,7 @@ use Prim.Native.Nat.{ℕ, _%_, _^_, _<_, _≤_}
 use native.Mathlib.Nat.{zero-add}
 use native.Mathlib.Omega.{arith}
 use mathlib.Core.Path.{_≡_, refl, sym, ap, _∙_, subst}
-use mathlib.Core.Bool.{Bool, true, false, not, cond, _&&_, _||_}
+use mathlib.Core.Bool.{Bool, true, false, not, cond, _||_}
 use mathlib.Core.List.{List, [], _∷_, _++_, append-assoc}
 use lib.Dec.{eqb, leb, lit<}
 use lib.ListN.{length, drop}
@@ -17,7 +17,7 @@ use Rattle.wire.specs.Addresses.{addressBytes}
 use Rattle.wire.specs.Words.{laid}
 use Rattle.wire.specs.Writing.{within, lengthOf, afterwards}
 use Rattle.wire.proofs.Tests.{both, each, implied}
-use Rattle.wire.proofs.ReadsBack.{Back, give-back, bind-back, made-back, field-back, when-back, number-back, address-back}
+use Rattle.wire.proofs.ReadsBack.{Back, bind-back, made-back, field-back, when-back, number-back, address-back}
 use Rattle.data_path_fields.specs.declared.misc.DataPathChannel.{DataPathChannel}
 use Rattle.data_path_fields.specs.declared.fields.CountryCode.{CountryCode}
 use Rattle.data_path_fields.specs.declared.fields.OptionalChannel.{OptionalChannel}
@@ -28,19 +28,16 @@ use Rattle.data_path_fields.specs.declared.fields.OptionalWord.{OptionalWord}
 use Rattle.data_path_fields.specs.declared.fields.OptionalTriggerId.{OptionalTriggerId}
 use Rattle.data_path_fields.specs.declared.fields.OptionalStats.{OptionalStats}
 use Rattle.data_path_state.specs.declared.data_path_state_tlv.DataPathStateTLV.{DataPathStateTLV}
-use Rattle.data_path_fields.specs.declared.read.Head.{Head}
-use Rattle.data_path_fields.specs.declared.read.Addresses.{Addresses}
 use Rattle.data_path_fields.specs.declared.read.Unicast.{Unicast}
 use Rattle.data_path_fields.specs.declared.read.Extended.{Extended}
-use Rattle.data_path_fields.specs.declared.read.Body.{Body}
 use Rattle.data_path_fields.specs.Words.{extendedKept, optionsKept, channelOf, wordOf}
 use Rattle.data_path_fields.specs.Fields.{noCountry, country, noChannel, channelWord, head, noInfra, infra, noAddress, oneAddress, addresses}
-use Rattle.data_path_fields.specs.Fields.{noWord, oneWord, someOptions, optionsAnd, optionsOf, noUnicast, unicast, noTriggerId, triggerId, noStats, stats, noExtended, extendedOf, extended, body}
-use Rattle.data_path_state.specs.DataPath.{whole, dataPath}
+use Rattle.data_path_fields.specs.Fields.{noWord, oneWord, optionsAnd, optionsOf, noUnicast, unicast, noTriggerId, triggerId, noStats, stats, noExtended, extendedOf, extended}
+use Rattle.data_path_state.specs.DataPath.{dataPath}
 use Rattle.data_path_state.specs.Consistent.{channelRight, consistent}
 use Rattle.data_path_state.specs.Bytes.{countryBytes, channelBytes, infraBytes, oneAddressBytes, wordBytes, triggerIdBytes, threeWords, statsBytes}
 use Rattle.data_path_state.specs.Bytes.{headBytes, addressesBytes, unicastBytes, extendedBytes, laidDown, bytesOf, sizeOf}
-use Rattle.data_path_state.proofs.Right.{Right, right, Announced, announced, Gone, gone}
+use Rattle.data_path_state.proofs.Right.{Right, right, announced, gone}
 use Rattle.data_path_state.specs.Ranges.{Ranges}
 use Rattle.data_path_state.proofs.Sizes.{length-laid}
 

@@ -1,6 +1,6 @@
 -- A consistent record takes as many bytes as the sum of its fields says: each field that is there counts its own bytes.
 -- Assumes nothing.
-use Prim.Native.Nat.{ℕ, _+_}
+use Prim.Native.Nat.{ℕ, _+_, _≤_}
 use native.Mathlib.Omega.{arith}
 use mathlib.Core.Path.{_≡_, refl, sym, ap, _∙_}
 use mathlib.Core.Bool.{Bool, true, false, not, cond, _&&_, _||_}
@@ -11,7 +11,7 @@ use Rattle.wire.specs.Numbers.{littleBytes}
 use Rattle.wire.specs.Writing.{lengthOf}
 use Rattle.wire.proofs.Tests.{never-true, both, implied}
 use Rattle.data_path_state.specs.declared.data_path_state_tlv.DataPathStateTLV.{DataPathStateTLV}
-use Rattle.data_path_state.specs.Consistent.{onlyWith, consistent}
+use Rattle.data_path_state.specs.Consistent.{consistent}
 use Rattle.data_path_state.specs.Bytes.{threeWords}
 use Rattle.data_path_state.specs.Bytes.{headBytes, addressesBytes, unicastBytes, extendedBytes, laidDown, bytesOf, counted, sum, sizeOf}
 use Rattle.data_path_state.proofs.Right.{right}
@@ -97,3 +97,24 @@ sized r {n} e = go (consistent r) refl
         let same : sum r ≡ n = cc in
         record { right = h; size = sym same ∙ sym (length-laid r h) }
     go false h = absurd (let e′ = rw h at e in let z : _≡_ {A = ℕ} 0 1 = cc in omega arith)
+
+-- at least the flags, and at most every field
+few : (b : Bool) (n : ℕ) → counted b n ≤ n
+few true n = omega arith
+few false n = omega arith
+
+pub size-range : (r : DataPathStateTLV) → (2 ≤ sum r) × (sum r ≤ 57)
+unfolding sum
+size-range r =
+    let country = few (r .«country_code» .present) 3 in
+    let channel = few (r .«channel_map» .present) 2 in
+    let bssid = few (r .«infra_bssid_channel» .present) 8 in
+    let infra = few (r .«infra_address» .present) 6 in
+    let awdl = few (r .«awdl_address» .present) 6 in
+    let options = few (r .«unicast_options» .present) 6 in
+    let second = few (r .«unicast_options_ext» .present) 4 in
+    let extended = few (r .«extended_flags» .present) 2 in
+    let trigger = few (r .«log_trigger_id» .present) 2 in
+    let rlfc = few (r .rlfc .present) 4 in
+    let stats = few (r .stats .present) 12 in
+    (omega arith, omega arith)

@@ -13,8 +13,8 @@ use Rattle.wire.specs.Words.{laid}
 use Rattle.wire.proofs.Lawful.{Lawful, bind-lawful, give-lawful, refuse-lawful, when-lawful, cond-lawful, made-lawful, field-lawful, number-lawful, address-lawful, grown, cut-short}
 use Rattle.data_path_state.specs.declared.data_path_state_tlv.DataPathStateTLV.{DataPathStateTLV}
 use Rattle.data_path_fields.specs.Words.{extendedKept}
-use Rattle.data_path_fields.specs.Fields.{noCountry, noChannel, head, noInfra, infra, noAddress, oneAddress, addresses, noUnicast, noWord, oneWord, optionsAnd, optionsOf, unicast}
-use Rattle.data_path_fields.specs.Fields.{noTriggerId, noStats, stats, noExtended, extendedOf, extended, body}
+use Rattle.data_path_fields.specs.Fields.{noCountry, noChannel, head, noInfra, infra, noAddress, oneAddress, addresses, noUnicast, noWord, oneWord, optionsAnd, unicast}
+use Rattle.data_path_fields.specs.Fields.{noTriggerId, noStats, stats, noExtended, extended, body}
 use Rattle.data_path_state.specs.DataPath.{dataPath}
 
 head-lawful : Lawful head

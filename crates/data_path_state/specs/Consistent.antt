@@ -1,5 +1,6 @@
 -- When a record is consistent.
 use Prim.Native.Nat.{ℕ, _%_}
+use mathlib.Core.Path.{_≡_}
 use mathlib.Core.Bool.{Bool, true, false, not, _&&_, _||_, Bool·beq}
 use lib.Dec.{eqb, leb}
 use Rattle.wire.specs.declared.read.MACAddress.{MACAddress}
@@ -30,7 +31,7 @@ extendedMatch r =
     && Bool·beq (bit 2 w) (r .rlfc .present)
     && Bool·beq (bit 5 w) (r .stats .present)
 
--- the second unicast word only with the first; trigger id, rlfc and stats only with extended flags
+-- a field that stands behind another one needs it
 abbrev pub onlyWith : DataPathStateTLV → Bool
 onlyWith r =
     (not (r .«unicast_options_ext» .present) || r .«unicast_options» .present)
@@ -43,7 +44,7 @@ abbrev pub channelRight : DataPathChannel → Bool
 channelRight (DataPathChannel.SingleChannel channel) = eqb (channel % 2) 0 && leb channel 254
 channelRight (DataPathChannel.ChannelMap map) = eqb (map .0 % 2) 1 && leb (map .0) 7
 
--- words within their keep masks
+-- no dropped bit is set
 abbrev pub wordsKept : DataPathStateTLV → Bool
 wordsKept r =
     eqb (laid extendedKept (r .«extended_flags» .flags .0)) (r .«extended_flags» .flags .0)
@@ -82,3 +83,7 @@ consistent r =
     && channelRight (r .«channel_map» .channel)
     && wordsKept r
     && absentZero r
+
+-- a channel that is there is right: the one thing that mending leaves alone
+abbrev pub ChannelRight : DataPathStateTLV → Type 0
+ChannelRight r = r .«channel_map» .present ≡ true → channelRight (r .«channel_map» .channel) ≡ true

@@ -28,7 +28,7 @@ fn show(frame: &[u8], mark: Mark) {
 }
 
 fn frame(bytes: &[u8]) {
-    let mark = report::start(bytes);
+    let mark = report::dump_start(bytes);
     show(bytes, mark);
     if let Mark::TooLong = mark {
         show(bytes, Mark::Frame);

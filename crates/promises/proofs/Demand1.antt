@@ -18,6 +18,9 @@ use Rattle.channel_sequence.specs.Sequences.{zeroSequence}
 use Rattle.channel_sequence.specs.Said.{saidEncoding, saidCorrected, saidConsistent, sequenceRead, sequenceFixed}
 use Rattle.channel_sequence.specs.Outcomes.{resultEncoding, resultCorrected, resultConsistent, outcomeSequence, resultFixed}
 use Rattle.channel_sequence.proofs.Once.{onceEncoding, onceCorrected, onceConsistent}
+use Rattle.data_path_fields.specs.Said.{saidHead, saidBody}
+use Rattle.data_path_fields.specs.Outcomes.{zeroHead, zeroBody, outcomeHead, outcomeBody}
+use Rattle.data_path_fields.proofs.Once.{onceHead, onceBody}
 use Rattle.data_path_state.specs.Said.{saidDataPath}
 use Rattle.data_path_state.specs.Outcomes.{zeroDataPath, outcomeDataPath}
 use Rattle.data_path_state.proofs.Once.{onceDataPath}
@@ -40,7 +43,8 @@ pub record Demand1 : Type 2 where
   -- a refusal's number is one of 1 to 9, and each refusal has its own
   pub numbers : (why : Refusal) → (1 ≤ numberOf why) × (numberOf why ≤ 9)
   pub apart : (why other : Refusal) → numberOf why ≡ numberOf other → why ≡ other
-  -- a refusal stands for its number, the zero value and size 0, and only one answer meets each statement:
+  -- a refusal stands for its number, the zero value and size 0, and only one answer meets each statement (where a contract is
+  -- an equation of the answer itself, there is nothing to show):
   -- of a number, an address and a place that are read, and of a size
   pub u8 : (at : ℕ) → Answering saidU8 refused (outcomeU8 at) (refusedOutcome 0)
   pub u16 : (at : ℕ) → Answering saidU16 refused (outcomeU16 at) (refusedOutcome 0)
@@ -54,7 +58,9 @@ pub record Demand1 : Type 2 where
   pub consistency : Answering saidConsistent refusal resultConsistent (refusedResult false)
   pub sequence : (at : ℕ) → Holding sequenceRead refused (outcomeSequence at) (refusedOutcome zeroSequence) (λ r. r .sequence) zeroSequence
   pub fixed : Holding sequenceFixed refusal resultFixed (refusedResult zeroSequence) (λ r. r .sequence) zeroSequence
-  -- of the two records, the header and the gap between the stamps
+  -- of the two records, the header and the gap between the stamps, and of the two parts in which a data path record is read
+  pub head : Answering saidHead refused outcomeHead (refusedOutcome zeroHead)
+  pub body : (at : ℕ) → Answering saidBody refused (outcomeBody at) (refusedOutcome zeroBody)
   pub data-path : Answering saidDataPath refused outcomeDataPath (refusedOutcome zeroDataPath)
   pub synchronization : Holding synchronizationRead refused outcomeSynchronization (refusedOutcome zeroSynchronization) (λ r. r .parameters) zeroSynchronization
   pub frame : Answering saidFrame refused outcomeFrame (refusedOutcome zeroFrame)
@@ -91,6 +97,8 @@ demand1 =
       consistency = call saidConsistent false (λ a b e. onceConsistent e refl);
       sequence = λ at. record { refuses = λ why. refl; zero = λ why. refl };
       fixed = record { refuses = λ why. refl; zero = λ why. refl };
+      head = reader saidHead zeroHead 0 (λ a b e. onceHead e refl);
+      body = λ at. reader saidBody zeroBody at (λ a b e. onceBody e refl);
       data-path = reader saidDataPath zeroDataPath 0 (λ a b e. onceDataPath e refl);
       synchronization = record { refuses = λ why. refl; zero = λ why. refl };
       frame = reader saidFrame zeroFrame 0 (λ a b e. onceFrame e refl);

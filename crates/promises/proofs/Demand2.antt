@@ -1,15 +1,35 @@
 -- Reading and writing are what the definitions say, and what was written of a consistent record is read back: the contracts say the one, each format's own laws the other.
 -- Assumes nothing.
-use Prim.Native.Nat.{ℕ, _≤_, _<_}
-use mathlib.Core.Path.{_≡_}
+use Prim.Native.Nat.{ℕ, _^_, _≤_, _<_}
+use mathlib.Core.Path.{_≡_, refl}
+use mathlib.Core.Bool.{true}
 use mathlib.Core.List.{List, [], _∷_}
-use lib.ListN.{length}
-use Rattle.wire.specs.Reading.{Reader}
+use lib.ListN.{length, getD}
+use Rattle.wire.specs.Reading.{Reader, read}
+use Rattle.wire.specs.Words.{maskOf}
+use Rattle.data_path_fields.specs.Words.{extendedKept, optionsKept}
+use Rattle.data_path_state.specs.declared.data_path_state_tlv.DataPathStateTLV.{DataPathStateTLV}
+use Rattle.data_path_state.specs.DataPath.{dataPath}
+use Rattle.data_path_state.specs.Consistent.{consistent, ChannelRight}
+use Rattle.data_path_state.specs.Bytes.{laidDown, sum}
+use Rattle.data_path_state.specs.Mended.{mended}
+use Rattle.data_path_state.specs.Rewritten as D
+use Rattle.data_path_state.proofs.Sizes.{size-range}
+use Rattle.data_path_state.proofs.Again.{written-again as data-path-again}
+use Rattle.data_path_state.proofs.Mending.{mended-consistent, mended-same}
+use Rattle.synchronization_parameters.specs.declared.synchronization_parameters_tlv.SynchronizationParametersTLV.{SynchronizationParametersTLV}
+use Rattle.synchronization_parameters.specs.SynchronizationReader.{synchronization}
+use Rattle.synchronization_parameters.specs.SynchronizationBytes.{bytesOf}
+use Rattle.synchronization_parameters.specs.Rewritten as S
+use Rattle.synchronization_parameters.proofs.Again.{written-again as synchronization-again}
 use Rattle.tlvs.specs.declared.item.Item.{Item}
 use Rattle.tlvs.specs.Walk.{whole, walk}
 use Rattle.tlvs.specs.Search.{allFrom, nextFrom, found, nothing}
 use Rattle.tlvs.proofs.Searches.{finds}
 use Rattle.tlvs.specs.Sent.{AllSendable, Sent, sentIn, tailWith}
+use Rattle.report.specs.Lines.{dumpLines}
+use Rattle.report.specs.Marks.{firstMark, Gives}
+use Rattle.report.proofs.Report.{gives-dump, gives-once}
 use Rattle.promises.specs.Formats as formats
 use Rattle.promises.specs.Formats.{RoundTrip}
 use Rattle.promises.proofs.EveryCall.{EveryCall, every-call}
@@ -24,6 +44,20 @@ pub record Demand2 : Type 2 where
   pub synchronizations : RoundTrip formats.synchronizations
   pub items : RoundTrip formats.items
   pub frames : RoundTrip formats.frames
+  -- a data path record takes 2 to 57 bytes, and its words keep these bits
+  pub sizes : (r : DataPathStateTLV) → (2 ≤ sum r) × (sum r ≤ 57)
+  pub masks : (maskOf extendedKept ≡ 0xFF7F) × (maskOf optionsKept ≡ 0xFFFFFE6A)
+  -- a value that was read and is written again gives the bytes that `rewritten` says: its own, but for what is dropped
+  pub data-paths-again : (s : List ℕ) (at : ℕ) {next : ℕ} {r : DataPathStateTLV} → dataPath s at ≡ read r next
+      → D.rewritten s at ≡ read (laidDown r) next
+  pub synchronizations-again : (s : List ℕ) → ((i : ℕ) → getD s i 0 < 256) → {p : SynchronizationParametersTLV} {size : ℕ}
+      → synchronization s 0 ≡ read p size → S.rewritten s 0 ≡ read (bytesOf p) size
+  -- mending makes a record consistent, unless its channel is present and wrong, and leaves a consistent one as it is
+  pub mended-consistent : (r : DataPathStateTLV) → ChannelRight r → consistent (mended r) ≡ true
+  pub mended-same : (r : DataPathStateTLV) → r .flags .0 < 2 ^ 16 → consistent r ≡ true → mended r ≡ r
+  -- the dump is given the lines of its input, and no others
+  pub dumped : (input : List ℕ) → Gives input (firstMark input) (dumpLines input)
+  pub dumped-once : (input : List ℕ) {lines : List (List ℕ)} → Gives input (firstMark input) lines → lines ≡ dumpLines input
   -- items that are written one behind the other are the items that the walk gives, each whole
   pub tails : (its : List Sent) → AllSendable its → (sentIn (tailWith its) ≡ its) × (walk (tailWith its) .ending ≡ whole)
   -- going on from each record that the search finds gives all the accepted records of the type, and it ends behind the last one
@@ -42,6 +76,14 @@ demand2 =
       synchronizations = synchronization-round;
       items = item-round;
       frames = frame-round;
+      sizes = size-range;
+      masks = (refl, refl);
+      data-paths-again = λ s at e. data-path-again .of {s = s} {at = at} e;
+      synchronizations-again = λ s small e. synchronization-again s small e;
+      mended-consistent = mended-consistent;
+      mended-same = mended-same;
+      dumped = gives-dump;
+      dumped-once = λ input g. gives-once input g (gives-dump input);
       tails = tail-round;
       searched = λ type reader tail at e. let w = finds type reader tail at e in (w .ahead, w .inside, w .all);
       ended = λ type reader tail at. found-none (allFrom type reader tail at);

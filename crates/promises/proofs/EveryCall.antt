@@ -174,9 +174,9 @@ pub record EveryCall : Type 2 where
   pub frame-write : Call frames.write.Symbol.routine frames.write.ended
       (λ κs a r e. Wrote (now (a .1 .1 .0)) (answer (F.bytesOf (a .0) (now (a .1 .0)))) (saidSize r) (now (e .1 .1 .0)))
   pub tx-delta : Call stamps.tx_delta.Symbol.routine stamps.tx_delta.ended
-      (λ κs a r e. saidDelta r ≡ delta (a .0 .0) (a .1 .0 .0))
+      (λ κs a r e. saidDelta r ≡ delta (a .0) (a .1 .0))
   -- the report: its first mark, and the line at a mark in the buffer that was lent
-  pub report-start : Call report.start.Symbol.routine report.start.ended
+  pub report-dump-start : Call report.dump_start.Symbol.routine report.dump_start.ended
       (λ κs a r e. r ≡ firstMark (now (a .0)))
   pub report-next-line : Call report.next_line.Symbol.routine report.next_line.ended
       (λ κs a r e. Shows (now (a .1 .1 .0)) (standsAt (now (a .0)) (a .1 .0)) r (now (e .1 .1 .0)))
@@ -239,6 +239,6 @@ every-call =
       frame-tail = λ M. frames.tail.Met.met;
       frame-write = λ M. frames.write.Met.met;
       tx-delta = λ M. stamps.tx_delta.Met.met;
-      report-start = λ M. report.start.Met.met;
+      report-dump-start = λ M. report.dump_start.Met.met;
       report-next-line = λ M. report.next_line.Met.met;
     }

@@ -15,7 +15,7 @@ use Rattle.wire.proofs.Lawful.{steps}
 use Rattle.wire.proofs.Bytes.{number-whole}
 use Rattle.tlvs.specs.declared.item.Item.{Item}
 use Rattle.tlvs.specs.declared.item.Step.{Step}
-use Rattle.tlvs.specs.Items.{item, found, stepAt, valueOf}
+use Rattle.tlvs.specs.Items.{item, stepOf, stepAt, valueOf}
 use Rattle.tlvs.specs.ItemBytes.{laidOut}
 use Rattle.tlvs.specs.Sent.{Sent, Sendable, AllSendable, sent, sentIn, tailWith}
 use Rattle.tlvs.specs.Walk.{whole, Walk, goOn, walkFrom, walk}
@@ -45,7 +45,7 @@ step-headed : (s : List ℕ) (at : ℕ) {it : Item} {next : ℕ} → stepAt s at
 unfolding stepAt
 step-headed s at {it} {next} e = let w = step-stands s at e in go (eqb at (length s)) (item at s at) refl (omega arith) e
   where
-    go : (b : Bool) (r : Reading Item) → item at s at ≡ r → at + 3 ≤ length s → cond b Step.Whole (found at r) ≡ Step.Item it next → Headed s at it
+    go : (b : Bool) (r : Reading Item) → item at s at ≡ r → at + 3 ≤ length s → cond b Step.Whole (stepOf at r) ≡ Step.Item it next → Headed s at it
     go true r q h e = absurd (let z : _≡_ {A = ℕ} 0 1 = cc in omega arith)
     go false (read it′ next′) q h e =
         let same : it′ ≡ it = cc in

@@ -32,7 +32,7 @@ headerLine f =
     named "frame subtype=" (f .subtype)
     ++ named " phy=" (f .«phy_tx_time» .0)
     ++ named " target=" (f .«target_tx_time» .0)
-    ++ deltaWords (delta (f .«phy_tx_time» .0) (f .«target_tx_time» .0))
+    ++ deltaWords (delta (f .«phy_tx_time») (f .«target_tx_time»))
     ++ text "\n"
 
 abbrev pub itemLine : Item → List ℕ

@@ -38,7 +38,8 @@ atStep items (Step.Item it next) = line (itemLine it) (behindItem it next (items
 atStep items Step.Whole = line (endLine items whole) Mark.End
 atStep items (Step.Cut at) = line (endLine items (cut at)) Mark.End
 
--- A place of the tail. One that lies outside it, or has more items than bytes before it, is no place of this walk.
+-- A place of the tail. One that lies outside it, or has more items than bytes before it, is no place of this walk: a caller
+-- can make such a mark up, and its numbers need not fit.
 abbrev pub atPlace : List ℕ → ℕ → ℕ → Stand
 atPlace tail at items = cond (leb items at) (cond (leb at (length tail)) (atStep items (stepAt tail at)) nothing) nothing
 

@@ -5,5 +5,5 @@ mod text;
 
 pub use marks::Line;
 pub use marks::Mark;
+pub use marks::dump_start;
 pub use marks::next_line;
-pub use marks::start;

@@ -39,10 +39,10 @@ pub enum Line {
     Nothing,
 }
 
-// The longest input that the dump takes. The lines of a frame can be had for any length, from the mark `Frame` on.
+// The longest input that the dump takes. A caller without that limit starts at the mark `Frame`.
 const MOST: usize = 4096;
 
-pub fn start(input: &[u8]) -> Mark
+pub fn dump_start(input: &[u8]) -> Mark
     ensures { λ r. ⌜ r ≡ firstMark (now (input .entry)) ⌝ }
 {
     if input.len() <= MOST {

@@ -12,7 +12,7 @@ use Rattle.wire.specs.Reading.{Reading, read, refused, field, give, _>>=_}
 use Rattle.wire.specs.Numbers.{number, little}
 use Rattle.tlvs.specs.declared.item.Item.{Item}
 use Rattle.tlvs.specs.declared.item.Step.{Step}
-use Rattle.tlvs.specs.Items.{item, found, stepAt}
+use Rattle.tlvs.specs.Items.{item, stepOf, stepAt}
 use Rattle.wire.proofs.Lawful.{steps}
 use Rattle.wire.proofs.Places.{field-inside, made-inside}
 
@@ -40,7 +40,7 @@ pub step-stands : (s : List ℕ) (at : ℕ) {it : Item} {next : ℕ} → stepAt 
 unfolding stepAt
 step-stands s at {it} {next} e = go (eqb at (length s)) (item at s at) refl e
   where
-    go : (b : Bool) (r : Reading Item) → item at s at ≡ r → cond b Step.Whole (found at r) ≡ Step.Item it next → Stands s at it next
+    go : (b : Bool) (r : Reading Item) → item at s at ≡ r → cond b Step.Whole (stepOf at r) ≡ Step.Item it next → Stands s at it next
     go true r q e = absurd (let z : _≡_ {A = ℕ} 0 1 = cc in omega arith)
     go false (read it′ next′) q e =
         let same : it′ ≡ it = cc in
@@ -53,7 +53,7 @@ pub step-whole : (s : List ℕ) (at : ℕ) → stepAt s at ≡ Step.Whole → at
 unfolding stepAt
 step-whole s at e = go (eqb at (length s)) refl (item at s at) e
   where
-    go : (b : Bool) → eqb at (length s) ≡ b → (r : Reading Item) → cond b Step.Whole (found at r) ≡ Step.Whole → at ≡ length s
+    go : (b : Bool) → eqb at (length s) ≡ b → (r : Reading Item) → cond b Step.Whole (stepOf at r) ≡ Step.Whole → at ≡ length s
     go true q r e = eqb-true at (length s) q
     go false q (read it next) e = absurd (let z : _≡_ {A = ℕ} 0 1 = cc in omega arith)
     go false q (refused why) e = absurd (let z : _≡_ {A = ℕ} 0 1 = cc in omega arith)
@@ -62,7 +62,7 @@ pub step-cut : (s : List ℕ) (at : ℕ) {place : ℕ} → stepAt s at ≡ Step.
 unfolding stepAt
 step-cut s at {place} e = go (eqb at (length s)) (item at s at) e
   where
-    go : (b : Bool) (r : Reading Item) → cond b Step.Whole (found at r) ≡ Step.Cut place → place ≡ at
+    go : (b : Bool) (r : Reading Item) → cond b Step.Whole (stepOf at r) ≡ Step.Cut place → place ≡ at
     go true r e = absurd (let z : _≡_ {A = ℕ} 0 1 = cc in omega arith)
     go false (read it next) e = absurd (let z : _≡_ {A = ℕ} 0 1 = cc in omega arith)
     go false (refused why) e = cc

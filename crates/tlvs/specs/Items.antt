@@ -17,14 +17,13 @@ item place = do
   value ← field size
   give (record { at = place; «tlv_type» = type; length = size })
 
-abbrev pub found : ℕ → Reading Item → Step
-found at (read it next) = Step.Item it next
-found at (refused why) = Step.Cut at
+abbrev pub stepOf : ℕ → Reading Item → Step
+stepOf at (read it next) = Step.Item it next
+stepOf at (refused why) = Step.Cut at
 
--- at the end of the tail: whole; where fewer than 3 bytes are left, or the length is above what follows: cut at that place.
--- A place past the end is cut at that place too; no walk comes to one.
+-- Used up: whole. An item that is not all there: cut where it starts. A place past the end is cut too; no walk comes to one.
 unfoldable pub stepAt : List ℕ → ℕ → Step
-stepAt tail at = cond (eqb at (length tail)) Step.Whole (found at (item at tail at))
+stepAt tail at = cond (eqb at (length tail)) Step.Whole (stepOf at (item at tail at))
 
 abbrev pub bytesFound : Reading (List ℕ) → List ℕ
 bytesFound (read bytes next) = bytes

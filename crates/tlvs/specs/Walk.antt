@@ -21,7 +21,7 @@ goOn (Step.Item it next) rest = record { items = it ∷ rest next .items; ending
 goOn Step.Whole rest = record { items = []; ending = whole }
 goOn (Step.Cut at) rest = record { items = []; ending = cut at }
 
--- the walk from a place, in so many steps at most
+-- the walk from a place, in so many steps at most; that they are enough is the law `walk-goes`
 unfoldable pub walkFrom : ℕ → List ℕ → ℕ → Walk
 walkFrom zero tail at = record { items = []; ending = cut at }
 walkFrom (suc steps) tail at = goOn (stepAt tail at) (walkFrom steps tail)

@@ -8,7 +8,14 @@ use mathlib.Core.Bool.{Bool, true, false, cond}
 use mathlib.Core.List.{List, [], _∷_, _++_}
 use lib.Bits.{bitAnd, and-block, and-mask, and-zero-r}
 use lib.Pow.{pow-pos, split, high, low, ones-lt, shl-shr, shr-shr}
-use Rattle.wire.specs.Words.{Run, keep, clear, put, laid, maskOf, addedBy}
+use Rattle.wire.specs.Words.{Run, keep, clear, put, laid, maskOf}
+
+-- what the bits that are given add to a word
+abbrev pub addedBy : List Run → ℕ
+addedBy [] = 0
+addedBy (keep n ∷ rest) = addedBy rest * 2 ^ n
+addedBy (clear n ∷ rest) = addedBy rest * 2 ^ n
+addedBy (put b ∷ rest) = addedBy rest * 2 ^ 1 + cond b 1 0
 
 -- the mask on one block and on the rest
 block : (n m s w : ℕ) → s < 2 ^ n → bitAnd w (m * 2 ^ n + s) ≡ bitAnd (w / 2 ^ n) m * 2 ^ n + bitAnd (w % 2 ^ n) s

@@ -22,10 +22,3 @@ maskOf [] = 0
 maskOf (keep n ∷ rest) = maskOf rest * 2 ^ n + (2 ^ n - 1)
 maskOf (clear n ∷ rest) = maskOf rest * 2 ^ n
 maskOf (put b ∷ rest) = maskOf rest * 2 ^ 1
-
--- what the given bits add to it
-abbrev pub addedBy : List Run → ℕ
-addedBy [] = 0
-addedBy (keep n ∷ rest) = addedBy rest * 2 ^ n
-addedBy (clear n ∷ rest) = addedBy rest * 2 ^ n
-addedBy (put b ∷ rest) = addedBy rest * 2 ^ 1 + cond b 1 0

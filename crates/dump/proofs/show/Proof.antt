@@ -13,9 +13,6 @@ Inv-loop input line₀ at₀ line at = Unit
 abbrev μ-loop : tie.MeasureT-loop
 μ-loop input line₀ at₀ line at = ahead input at
 
-start-requires : tie.Need-start-requires Inv-loop μ-loop
-start-requires c κs = search needs
-
 loop-holds : tie.Need-loop-holds Inv-loop μ-loop
 loop-holds c = tt
 
@@ -33,12 +30,12 @@ returns c = tt
 
 array-share-prefix-line : tie.Need-array-share-prefix-line Inv-loop μ-loop
 array-share-prefix-line c =
-    line-inside (c .before .before .before .before .before .before .before .before .args .input .now) (c .before .before .before .before .before .loop .at)
+    line-inside (c .before .before .before .before .before .before .before .args .input .now) (c .before .before .before .before .before .loop .at)
     (c .before .before .before .next-line .ensures) (c .before .n .given .1)
 
 slice-aggregate-write-all : tie.Need-slice-aggregate-write-all Inv-loop μ-loop
 slice-aggregate-write-all c =
-    sym (length-take-le _ _ (line-inside (c .before .before .before .before .before .before .before .before .before .args .input .now) (c .before .before .before .before .before .before .loop .at)
+    sym (length-take-le _ _ (line-inside (c .before .before .before .before .before .before .before .before .args .input .now) (c .before .before .before .before .before .before .loop .at)
     (c .before .before .before .before .next-line .ensures) (c .before .before .n .given .1)))
 
 write-all-requires : tie.Need-write-all-requires Inv-loop μ-loop
@@ -46,7 +43,7 @@ write-all-requires c κs = search needs
 
 loop-less : tie.Need-loop-less Inv-loop μ-loop
 loop-less c =
-    line-nearer (c .before .before .before .before .before .before .before .before .before .before .args .input .now) (c .before .before .before .before .before .before .before .loop .at)
+    line-nearer (c .before .before .before .before .before .before .before .before .before .args .input .now) (c .before .before .before .before .before .before .before .loop .at)
     (c .before .before .before .before .before .next-line .ensures) (c .before .before .before .n .given .1)
 
 loop-again : tie.Need-loop-again Inv-loop μ-loop
@@ -58,7 +55,6 @@ show-spec =
     (tie.spec
     Inv-loop
     μ-loop
-    start-requires
     loop-holds
     next-line-requires
     enum-known-n

@@ -3,7 +3,6 @@
 use Rattle.data_path_state.proofs.Puts.{put-none}
 use Rattle.data_path_state.proofs.write.put_channel.Statement.{statement}
 use Rattle.data_path_state.proofs.write.put_channel.Tie as tie
-use Rattle.wire.specs.Numbers.{littleBytes}
 use borrow.Author.Needs.{needs}
 
 as-u16-requires : tie.Need-as-u16-requires

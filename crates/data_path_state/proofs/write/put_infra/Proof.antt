@@ -3,11 +3,8 @@
 use Rattle.data_path_state.proofs.Puts.{put-none}
 use Rattle.data_path_state.proofs.write.put_infra.Statement.{statement}
 use Rattle.data_path_state.proofs.write.put_infra.Tie as tie
-use Rattle.wire.proofs.Stores.{put-both, room-first}
-use Rattle.wire.specs.Addresses.{addressBytes}
-use Rattle.wire.specs.Numbers.{littleBytes}
+use Rattle.wire.proofs.Stores.{put-both}
 use borrow.Author.Needs.{needs}
-use mathlib.Core.List.{_++_}
 
 put-address-requires : tie.Need-put-address-requires
 put-address-requires c κs = tt

@@ -2,7 +2,7 @@
 -- Assumes nothing.
 use Rattle.tlvs.proofs.walk.step.Statement.{statement}
 use Rattle.tlvs.proofs.walk.step.Tie as tie
-use Rattle.tlvs.specs.Items.{found, stepAt}
+use Rattle.tlvs.specs.Items.{stepOf, stepAt}
 use Rattle.tlvs.specs.declared.item.Item.{Item}
 use Rattle.wire.proofs.Bytes.{placed, unplaced}
 use Rattle.wire.specs.Reading.{read, field, onward}
@@ -16,7 +16,7 @@ use mathlib.Core.Path.{_≡_, sym, ap, _∙_}
 headed : (c : tie.After-wide) →
     let a = c .before .before .before .before .before .before .before .before .before .before .before .args in
     let it : Item = record { at = a .at; «tlv_type» = c .before .before .before .before .before .before .tlv-type .given .0 .0; length = c .wide .result } in
-    stepAt (a .tail .now) (a .at) ≡ found (a .at) (onward (field (c .wide .result) (a .tail .now) (c .before .before .v .given .0 .1 .0)) (λ value next. read it next))
+    stepAt (a .tail .now) (a .at) ≡ stepOf (a .at) (onward (field (c .wide .result) (a .tail .now) (c .before .before .v .given .0 .1 .0)) (λ value next. read it next))
 unfolding stepAt
 headed c =
     let a = c .before .before .before .before .before .before .before .before .before .before .before .args in

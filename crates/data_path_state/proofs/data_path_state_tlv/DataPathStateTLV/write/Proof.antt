@@ -1,11 +1,10 @@
 -- `DataPathStateTLV::write` meets its contract: what is put is the record laid down, after the size and the room were settled.
 -- Assumes nothing.
 use Prim.Native.Nat.{_≤_}
-use Rattle.data_path_state.proofs.Sizes.{Sized, sized, size-length}
+use Rattle.data_path_state.proofs.Sizes.{sized, size-length}
 use Rattle.data_path_state.proofs.data_path_state_tlv.DataPathStateTLV.write.Statement.{statement}
 use Rattle.data_path_state.proofs.data_path_state_tlv.DataPathStateTLV.write.Tie as tie
-use Rattle.data_path_state.specs.Bytes.{laidDown, bytesOf, sizeOf}
-use Rattle.data_path_state.specs.Consistent.{consistent}
+use Rattle.data_path_state.specs.Bytes.{bytesOf, sizeOf}
 use Rattle.wire.proofs.Bytes.{within-room}
 use Rattle.wire.proofs.Once.{told}
 use Rattle.wire.proofs.Stores.{wrote-all, wrote-none}
@@ -13,7 +12,6 @@ use Rattle.wire.specs.Answer.{answer}
 use Rattle.wire.specs.Said.{saidSize}
 use borrow.Author.Needs.{needs}
 use lib.ListN.{length}
-use mathlib.Core.Bool.{true}
 use mathlib.Core.Path.{_≡_, sym}
 use native.Mathlib.Omega.{arith}
 
