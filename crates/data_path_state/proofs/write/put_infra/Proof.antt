@@ -17,7 +17,6 @@ same-length c = search needs
 
 returns : tie.Need-returns
 returns c =
-    let a = c .before .before .before .before .before .before .before .before .before .before .args in
     let pre = rw (c .before .before .before .before .before .before .before .before .if1 .taken) at (c .before .before .before .before .before .before .before .before .before .before .pre) in
     rw (c .before .before .before .before .before .before .before .before .if1 .taken) (put-both (c .before .before .before .before .before .before .put-address .ensures) (c .before .before .put-u16 .ensures) pre)
 
