@@ -30,18 +30,43 @@ fn without_extended_fields(r: DataPathStateTLV) -> DataPathStateTLV {
     stats(rlfc(trigger(r, false, 0), false, 0), false, 0, 0, 0)
 }
 
+// A function has few records: the prover follows every copy of each.
+fn flagged(bits: u16) {
+    mending(flags(empty(), bits));
+}
+
+fn full_flagged(bits: u16) {
+    mending(flags(full(), bits));
+}
+
+fn bare_extended(word: u16) {
+    mending(extended(bare(), true, word));
+}
+
+fn full_extended(word: u16) {
+    mending(extended(full(), true, word));
+}
+
 fn flag_without_field() {
     text(b"- a flag without its field\n");
-    mending(flags(empty(), 0x0001));
-    mending(flags(empty(), 0x0002));
-    mending(flags(empty(), 0x0004));
-    mending(flags(empty(), 0x0100));
-    mending(flags(empty(), 0x0200));
-    mending(flags(empty(), 0x1000));
-    mending(flags(empty(), 0x8000));
+    flagged(0x0001);
+    flagged(0x0002);
+    flagged(0x0004);
+    flagged(0x0100);
+    flagged(0x0200);
+    flagged(0x1000);
+    flagged(0x8000);
+    without_addresses();
+    without_the_rest();
+}
+
+fn without_addresses() {
     mending(bssid(full(), false, NOWHERE, 0));
     mending(infra(full(), false, NOWHERE));
     mending(awdl(full(), false, NOWHERE));
+}
+
+fn without_the_rest() {
     mending(country(full(), false, 0, 0));
     mending(channel(full(), false, single(0)));
     mending(options(second(full(), false, 0), false, 0));
@@ -50,16 +75,24 @@ fn flag_without_field() {
 
 fn field_without_flag() {
     text(b"- a field without its flag\n");
-    mending(flags(full(), 0x972E));
-    mending(flags(full(), 0x972D));
-    mending(flags(full(), 0x972B));
-    mending(flags(full(), 0x962F));
-    mending(flags(full(), 0x952F));
-    mending(flags(full(), 0x872F));
-    mending(flags(full(), 0x172F));
+    full_flagged(0x972E);
+    full_flagged(0x972D);
+    full_flagged(0x972B);
+    full_flagged(0x962F);
+    full_flagged(0x952F);
+    full_flagged(0x872F);
+    full_flagged(0x172F);
+    with_addresses();
+    with_the_rest();
+}
+
+fn with_addresses() {
     mending(bssid(empty(), true, BSSID, 0x1224));
     mending(infra(empty(), true, INFRA));
     mending(awdl(empty(), true, AWDL));
+}
+
+fn with_the_rest() {
     mending(country(empty(), true, 0x44, 0x45));
     mending(channel(empty(), true, single(36)));
     mending(options(empty(), true, 0x8421_0A42));
@@ -68,16 +101,19 @@ fn field_without_flag() {
 
 fn extended_flags() {
     text(b"- an extended flag without its field\n");
-    mending(extended(bare(), true, 0x4109));
-    mending(extended(bare(), true, 0x410C));
-    mending(extended(bare(), true, 0x4128));
+    bare_extended(0x4109);
+    bare_extended(0x410C);
+    bare_extended(0x4128);
     mending(trigger(full(), false, 0));
     mending(rlfc(full(), false, 0));
     mending(stats(full(), false, 0, 0, 0));
+}
+
+fn extended_fields() {
     text(b"- a field without its extended flag\n");
-    mending(extended(full(), true, 0x412C));
-    mending(extended(full(), true, 0x4129));
-    mending(extended(full(), true, 0x410D));
+    full_extended(0x412C);
+    full_extended(0x4129);
+    full_extended(0x410D);
     mending(trigger(bare(), true, 0xC1C2));
     mending(rlfc(bare(), true, 0xD1D2_D3D4));
     mending(full_stats(bare()));
@@ -90,6 +126,9 @@ fn lone_fields() {
     mending(flags(lone, 0x1000));
     mending(flags(options(full(), false, 0), 0x872F));
     mending(options(full(), false, 0));
+}
+
+fn lone_extended_fields() {
     text(b"- fields without extended flags\n");
     mending(trigger(empty(), true, 0xC1C2));
     mending(rlfc(empty(), true, 0xD1D2_D3D4));
@@ -200,7 +239,9 @@ pub(crate) fn all() {
     flag_without_field();
     field_without_flag();
     extended_flags();
+    extended_fields();
     lone_fields();
+    lone_extended_fields();
     channels();
     kept_words();
     absent_head();
