@@ -219,22 +219,18 @@ fn read_addresses(s: &[u8], at: usize, flags: u16) -> ReadAddresses
     ensures { λ r. ⌜ saidAddresses r ≡ D.addresses flags (now (s .entry)) at ⌝ }
 {
     let has_bssid = flags / DataPathFlags::INFRA_BSSID_CHANNEL_PRESENT % 2 == 1;
+    let has_infra = flags / DataPathFlags::INFRA_ADDRESS_PRESENT % 2 == 1;
+    let has_awdl = flags / DataPathFlags::AWDL_ADDRESS_PRESENT % 2 == 1;
     match infra_bssid_channel(s, at, has_bssid) {
-        ReadInfra::Read(bssid, behind_bssid) => {
-            let has_infra = flags / DataPathFlags::INFRA_ADDRESS_PRESENT % 2 == 1;
-            match one_address(s, behind_bssid, has_infra) {
-                ReadOptionalAddress::Read(infra, behind_infra) => {
-                    let has_awdl = flags / DataPathFlags::AWDL_ADDRESS_PRESENT % 2 == 1;
-                    match one_address(s, behind_infra, has_awdl) {
-                        ReadOptionalAddress::Read(awdl, next) => {
-                            return ReadAddresses::Read(Addresses { bssid, infra, awdl }, next);
-                        }
-                        ReadOptionalAddress::Refused(why) => return ReadAddresses::Refused(why),
-                    }
+        ReadInfra::Read(bssid, behind) => match one_address(s, behind, has_infra) {
+            ReadOptionalAddress::Read(infra, behind) => match one_address(s, behind, has_awdl) {
+                ReadOptionalAddress::Read(awdl, next) => {
+                    return ReadAddresses::Read(Addresses { bssid, infra, awdl }, next);
                 }
                 ReadOptionalAddress::Refused(why) => return ReadAddresses::Refused(why),
-            }
-        }
+            },
+            ReadOptionalAddress::Refused(why) => return ReadAddresses::Refused(why),
+        },
         ReadInfra::Refused(why) => return ReadAddresses::Refused(why),
     }
 }

@@ -1,5 +1,4 @@
 pub mod Bits
-pub mod Puts
 pub mod Right
 pub mod Sizes
 pub mod RoundTrip

@@ -41,13 +41,10 @@ use Rattle.data_path_state.proofs.Right.{Right, right, announced, gone}
 use Rattle.data_path_state.specs.Ranges.{Ranges}
 use Rattle.data_path_state.proofs.Sizes.{length-laid}
 
-country-back : (c : CountryCode) → c .first < 256 → c .second < 256 → c .present ≡ true
-    → Back country (littleBytes 1 (c .first) ++ littleBytes 1 (c .second) ++ littleBytes 1 0) c
-country-back c f s p =
-    let first : c .first % 256 ≡ c .first = omega arith in
-    let second : c .second % 256 ≡ c .second = omega arith in
-    let bytes : List ℕ = littleBytes 1 (c .first) ++ littleBytes 1 (c .second) ++ littleBytes 1 0 in
-    subst (λ (x : CountryCode). Back country bytes x) (λ i. record { present = sym p i; first = first i; second = second i })
+country-back : (c : CountryCode) → c .present ≡ true → Back country (c .first ∷ c .second ∷ 0 ∷ []) c
+country-back c p =
+    let bytes : List ℕ = c .first ∷ c .second ∷ 0 ∷ [] in
+    subst (λ (x : CountryCode). Back country bytes x) (λ i. record { present = sym p i; first = c .first; second = c .second })
     (made-back _ (field-back 3 bytes refl))
 
 -- the channel word of a right channel is that channel again
@@ -77,7 +74,7 @@ head-back r h w =
     let a = announced w in
     let g = gone w in
     let country′ : Back (when (bit 8 (r .flags .0)) noCountry country) (countryBytes (r .«country_code»)) (r .«country_code») =
-    rw (a .country) (when-back (r .«country_code» .present) noCountry (country-back (r .«country_code») (h .first) (h .second)) (g .country)) in
+    rw (a .country) (when-back (r .«country_code» .present) noCountry (country-back (r .«country_code»)) (g .country)) in
     let channel′ : Back (when (bit 9 (r .flags .0)) noChannel channelWord) (channelBytes (r .«channel_map»)) (r .«channel_map») =
     rw (a .channel) (when-back (r .«channel_map» .present) noChannel (channel-back (r .«channel_map») (w .channel) (h .channel)) (g .channel)) in
     rw (append-assoc (littleBytes 2 (r .flags .0)) (countryBytes (r .«country_code»)) (channelBytes (r .«channel_map»)))

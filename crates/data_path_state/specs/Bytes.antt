@@ -1,7 +1,7 @@
 -- The size of a record and the bytes that are written.
 use Prim.Native.Nat.{ℕ, _+_}
 use mathlib.Core.Bool.{Bool, cond}
-use mathlib.Core.List.{List, [], _++_}
+use mathlib.Core.List.{List, [], _∷_, _++_}
 use Rattle.wire.specs.declared.refusal.Refusal.the-variants.{Inconsistent}
 use Rattle.wire.specs.Answer.{Answer, answer, require, _>>_}
 use Rattle.wire.specs.Numbers.{littleBytes}
@@ -18,9 +18,9 @@ use Rattle.data_path_state.specs.declared.data_path_state_tlv.DataPathSt
 use Rattle.data_path_fields.specs.Words.{wordOf}
 use Rattle.data_path_state.specs.Consistent.{consistent}
 
--- the pad byte is 0
+-- two letters, and a pad byte that is 0
 abbrev pub countryBytes : CountryCode → List ℕ
-countryBytes c = cond (c .present) (littleBytes 1 (c .first) ++ littleBytes 1 (c .second) ++ littleBytes 1 0) []
+countryBytes c = cond (c .present) (c .first ∷ c .second ∷ 0 ∷ []) []
 
 abbrev pub channelBytes : OptionalChannel → List ℕ
 channelBytes c = cond (c .present) (littleBytes 2 (wordOf (c .channel))) []

@@ -2,7 +2,7 @@
 -- bits, and what a channel word carries beside its channel are 0.
 use Prim.Native.Nat.{ℕ, _%_, _^_}
 use mathlib.Core.Bool.{cond}
-use mathlib.Core.List.{List, [], _++_}
+use mathlib.Core.List.{List, [], _∷_, _++_}
 use lib.Dec.{eqb}
 use lib.ListN.{getD}
 use Rattle.wire.specs.declared.refusal.Refusal.the-variants.{UnicastLength}
@@ -16,7 +16,7 @@ use Rattle.data_path_fields.specs.Words.{extendedKept, optionsKept}
 abbrev pub countryAgain : Reader (List ℕ)
 countryAgain = do
   letters ← field 3
-  give (littleBytes 1 (getD letters 0 0) ++ littleBytes 1 (getD letters 1 0) ++ littleBytes 1 0)
+  give (getD letters 0 0 ∷ getD letters 1 0 ∷ 0 ∷ [])
 
 -- a map keeps its low three bits, a single channel its low byte
 abbrev pub channelAgain : Reader (List ℕ)

@@ -1,4 +1,5 @@
 ghost use mathlib.Core.Path.{_≡_};
+ghost use mathlib.Core.Bool.{_&&_};
 ghost use Rattle.data_path_state.specs.Consistent as C;
 use crate::data_path_state_tlv::DataPathStateTLV;
 use data_path_fields::ChannelMap;
@@ -10,10 +11,11 @@ use data_path_fields::UnicastOptions;
 use wire::MACAddress;
 
 // The tests below have no branches: each is a formula, as its definition is.
-pub(crate) fn flags_match(r: DataPathStateTLV) -> bool
-    ensures { λ t. ⌜ t ≡ C.flagsMatch r ⌝ }
+pub(crate) fn bits_match(r: DataPathStateTLV) -> bool
+    ensures { λ t. ⌜ t ≡ (C.flagsMatch r && C.extendedMatch r) ⌝ }
 {
     let w = r.flags.0;
+    let e = r.extended_flags.flags.0;
     ((w / DataPathFlags::INFRA_BSSID_CHANNEL_PRESENT % 2 == 1) == r.infra_bssid_channel.present)
         & ((w / DataPathFlags::INFRA_ADDRESS_PRESENT % 2 == 1) == r.infra_address.present)
         & ((w / DataPathFlags::AWDL_ADDRESS_PRESENT % 2 == 1) == r.awdl_address.present)
@@ -21,15 +23,10 @@ pub(crate) fn flags_match(r: DataPathStateTLV) -> bool
         & ((w / DataPathFlags::CHANNEL_MAP_PRESENT % 2 == 1) == r.channel_map.present)
         & ((w / DataPathFlags::UNICAST_OPTIONS_PRESENT % 2 == 1) == r.unicast_options.present)
         & ((w / DataPathFlags::EXTENDED_FLAGS % 2 == 1) == r.extended_flags.present)
-}
-
-pub(crate) fn extended_match(r: DataPathStateTLV) -> bool
-    ensures { λ t. ⌜ t ≡ C.extendedMatch r ⌝ }
-{
-    let w = r.extended_flags.flags.0;
-    ((w / DataPathExtendedFlags::LOG_TRIGGER_ID_PRESENT % 2 == 1) == r.log_trigger_id.present)
-        & ((w / DataPathExtendedFlags::RLFC_PRESENT % 2 == 1) == r.rlfc.present)
-        & ((w / DataPathExtendedFlags::STATS_PRESENT % 2 == 1) == r.stats.present)
+        & (((e / DataPathExtendedFlags::LOG_TRIGGER_ID_PRESENT % 2 == 1)
+            == r.log_trigger_id.present)
+            & ((e / DataPathExtendedFlags::RLFC_PRESENT % 2 == 1) == r.rlfc.present)
+            & ((e / DataPathExtendedFlags::STATS_PRESENT % 2 == 1) == r.stats.present))
 }
 
 pub(crate) fn only_with(r: DataPathStateTLV) -> bool

@@ -75,8 +75,7 @@ impl DataPathStateTLV {
     {
         let word = self.channel_map;
         let channel = word.channel;
-        consistent::flags_match(self)
-            & consistent::extended_match(self)
+        consistent::bits_match(self)
             & consistent::only_with(self)
             & consistent::channel_right(channel)
             & consistent::words_kept(self)

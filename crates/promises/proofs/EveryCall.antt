@@ -68,6 +68,10 @@ pub record EveryCall : Type 2 where
       (λ κs a r e. saidAddress r ≡ address (now (a .0)) (a .1 .0))
   pub field-at : Call wire.field_at.Symbol.routine wire.field_at.ended
       (λ κs a r e. saidPlace r ≡ placeOf (field (a .1 .1 .0) (now (a .0)) (a .1 .0)))
+  pub u16-bytes : Call wire.u16_bytes.Symbol.routine wire.u16_bytes.ended
+      (λ κs a r e. r ≡ littleBytes 2 (a .0))
+  pub u32-bytes : Call wire.u32_bytes.Symbol.routine wire.u32_bytes.ended
+      (λ κs a r e. r ≡ littleBytes 4 (a .0))
   pub put-u8 : Call wire.put_u8.Symbol.routine wire.put_u8.ended
       (λ κs a r e. Put (now (a .0)) (a .1 .0) (littleBytes 1 (a .1 .1 .0)) r (now (e .0)))
   pub put-u16 : Call wire.put_u16.Symbol.routine wire.put_u16.ended
@@ -189,6 +193,8 @@ every-call =
       u32-at = λ M. wire.u32_at.Met.met;
       address-at = λ M. wire.address_at.Met.met;
       field-at = λ M. wire.field_at.Met.met;
+      u16-bytes = λ M. wire.u16_bytes.Met.met;
+      u32-bytes = λ M. wire.u32_bytes.Met.met;
       put-u8 = λ M. wire.put_u8.Met.met;
       put-u16 = λ M. wire.put_u16.Met.met;
       put-u32 = λ M. wire.put_u32.Met.met;

@@ -4,7 +4,7 @@ use Prim.Native.Nat.{ℕ, _+_, _-_, _≤_, _<_}
 use native.Mathlib.Nat.{add-zero, zero-add, add-assoc}
 use native.Mathlib.Omega.{arith}
 use mathlib.Core.Path.{_≡_, refl, sym, ap, _∙_}
-use mathlib.Core.Bool.{Bool, true, false}
+use mathlib.Core.Bool.{Bool, true, false, cond}
 use mathlib.Core.List.{List, [], _++_, append-assoc, append-nil}
 use lib.Dec.{leb}
 use lib.ListN.{length, take, drop, length-append, length-take, length-drop, take-append-drop}
@@ -12,7 +12,7 @@ use lib.Seq.{paste, paste-zero, take-length, take-at, drop-append-add, drop-drop
 use borrow.Author.Tests.{le-leb, lt-leb, leb-true, leb-false}
 use Rattle.wire.specs.declared.refusal.Refusal.{Refusal}
 use Rattle.wire.specs.Answer.{Answer, answer, refusal}
-use Rattle.wire.specs.Writing.{fits, behind, Put, within, lengthOf, Wrote}
+use Rattle.wire.specs.Writing.{fits, behind, Put, Runs, within, lengthOf, Wrote}
 
 pub put-none : (s : List ℕ) (at : ℕ) (bytes : List ℕ) → length s - at < length bytes → Put s at bytes at s
 put-none s at bytes h =
@@ -51,11 +51,13 @@ put-length {s} {at} {bytes} {next} {t} p = go (fits s at bytes) refl
     go true e = put-fits p (leb-true (at + length bytes) (length s) e) .2
     go false e = ap length (rw e at (p .buffer))
 
--- no byte, where a field is absent
-pub put-empty : (s : List ℕ) (at : ℕ) → at ≤ length s → Put s at [] at s
-put-empty s at h =
-    let room : fits s at [] ≡ true = le-leb (at + 0) (length s) (omega arith) in
-    record { place = rw (room, add-zero at); buffer = rw (room, add-zero at, append-nil (take at s)) (sym (take-append-drop at s)) }
+-- no byte leaves the buffer and the place as they are
+pub put-empty : (s : List ℕ) (at : ℕ) → Put s at [] at s
+put-empty s at = go (fits s at []) refl
+  where
+    go : (b : Bool) → fits s at [] ≡ b → Put s at [] at s
+    go true e = record { place = rw (e, add-zero at); buffer = rw (e, add-zero at, append-nil (take at s)) (sym (take-append-drop at s)) }
+    go false e = record { place = rw e; buffer = rw e }
 
 -- one run behind another is both at once
 pub put-then : {s : List ℕ} {at : ℕ} {xs : List ℕ} {mid : ℕ} {t : List ℕ} {ys : List ℕ} {next : ℕ} {u : List ℕ}
@@ -96,29 +98,27 @@ pub wrote-none : (s : List ℕ) (bytes : Answer (List ℕ)) {why : Refusal} → 
 wrote-none s (answer b) e = record { size = e; buffer = rw (← e) }
 wrote-none s (refusal why) e = record { size = e; buffer = refl }
 
--- the room of two runs is room for the first, and behind it for the second
-pub room-first : (at : ℕ) (xs ys : List ℕ) {n : ℕ} → at + length (xs ++ ys) ≤ n → at + length xs ≤ n
-room-first at xs ys h = let both = length-append xs ys in omega arith
-
-pub room-second : {s : List ℕ} {at : ℕ} {xs : List ℕ} {mid : ℕ} {t : List ℕ} (ys : List ℕ)
-    → Put s at xs mid t → at + length (xs ++ ys) ≤ length s → mid + length ys ≤ length t
-room-second {s} {at} {xs} ys p h =
+-- runs are put one behind the other, from any place
+infixl 20 _onward_
+pub _onward_ : {s : List ℕ} {at : ℕ} {xs : List ℕ} {mid : ℕ} {t ys : List ℕ} {next : ℕ} {u : List ℕ}
+    → Runs s at xs mid t → Runs t mid ys next u → Runs s at (xs ++ ys) next u
+_onward_ {s} {at} {xs} {mid} {t} {ys} p q room =
     let both = length-append xs ys in
-    let laid = put-fits p (room-first at xs ys h) in
-    omega arith
+    let first = p (omega arith) in
+    let laid = put-fits first (omega arith) in
+    put-then first (q (omega arith)) (omega arith)
 
-pub put-both : {s : List ℕ} {at : ℕ} {xs : List ℕ} {mid : ℕ} {t : List ℕ} {ys : List ℕ} {next : ℕ} {u : List ℕ}
-    → Put s at xs mid t → Put t mid ys next u → at + length (xs ++ ys) ≤ length s → Put s at (xs ++ ys) next u
-put-both {xs = xs} {ys = ys} p q h = let both = length-append xs ys in put-then p q (omega arith)
+-- two runs of a field that is there or is not
+pub run-both : (present : Bool) (xs ys : List ℕ) {s : List ℕ} {at mid : ℕ} {t : List ℕ} {next : ℕ} {u : List ℕ}
+    → Runs s at (cond present xs []) mid t → Runs t mid (cond present ys []) next u → Runs s at (cond present (xs ++ ys) []) next u
+run-both true xs ys p q = p onward q
+run-both false xs ys p q = p onward q
 
--- a record's bytes, put run after run from the start on, each at its place; that there is room is asked once, of all of them
-abbrev pub Laid : List ℕ → List ℕ → ℕ → List ℕ → Type 0
-Laid s bytes next t = length bytes ≤ length s → Put s 0 bytes next t
-
+-- from the start on, with each run at its own place
 infixl 20 _also_
 pub _also_ : {s xs : List ℕ} {mid : ℕ} {t ys : List ℕ} {next : ℕ} {u : List ℕ}
-    → Laid s xs mid t → Put t (length xs) ys next u → Laid s (xs ++ ys) next u
-_also_ {s} {xs} {mid} {t} {ys} {next} {u} laid q room =
+    → Runs s 0 xs mid t → Put t (length xs) ys next u → Runs s 0 (xs ++ ys) next u
+_also_ {s} {xs} {mid} {t} {ys} p q room =
     let both = length-append xs ys in
-    let p = laid (omega arith) in
-    put-then p (rw (← put-all p (omega arith) .0) at q) (omega arith)
+    let first = p (omega arith) in
+    put-then first (rw (← put-all first (omega arith) .0) at q) (omega arith)

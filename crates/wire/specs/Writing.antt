@@ -1,6 +1,6 @@
 -- What a lent buffer holds after a call.
 use mathlib.Core.Path.{_≡_}
-use Prim.Native.Nat.{ℕ, _+_}
+use Prim.Native.Nat.{ℕ, _+_, _≤_}
 use mathlib.Core.Bool.{Bool, cond}
 use mathlib.Core.List.{List, _++_}
 use lib.Dec.{leb}
@@ -23,6 +23,10 @@ behind s at bytes = cond (fits s at bytes) (at + length bytes) at
 pub record Put (s : List ℕ) (at : ℕ) (bytes : List ℕ) (next : ℕ) (after : List ℕ) : Type 0 where
   pub place : next ≡ behind s at bytes
   pub buffer : after ≡ putting s at bytes
+
+-- bytes that are put run after run: that there is room is asked once, of all of them
+abbrev pub Runs : List ℕ → ℕ → List ℕ → ℕ → List ℕ → Type 0
+Runs s at bytes next after = at + length bytes ≤ length s → Put s at bytes next after
 
 -- a size that has to fit a room
 abbrev pub within : ℕ → Answer ℕ → Answer ℕ

@@ -22,4 +22,6 @@ pub use write::put_slice;
 pub use write::put_u8;
 pub use write::put_u16;
 pub use write::put_u32;
+pub use write::u16_bytes;
+pub use write::u32_bytes;
 pub use write::within;

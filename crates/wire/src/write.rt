@@ -29,6 +29,25 @@ pub fn within(len: usize, size: Size) -> Size
     }
 }
 
+// The bytes of a number, lowest first.
+pub fn u16_bytes(v: u16) -> [u8; 2]
+    ensures { λ r. ⌜ r ≡ littleBytes 2 v ⌝ }
+{
+    let low = (v % 256) as u8;
+    let high = (v / 256 % 256) as u8;
+    [low, high]
+}
+
+pub fn u32_bytes(v: u32) -> [u8; 4]
+    ensures { λ r. ⌜ r ≡ littleBytes 4 v ⌝ }
+{
+    let b0 = (v % 256) as u8;
+    let b1 = (v / 256 % 256) as u8;
+    let b2 = (v / 256 / 256 % 256) as u8;
+    let b3 = (v / 256 / 256 / 256 % 256) as u8;
+    [b0, b1, b2, b3]
+}
+
 // Each of these puts bytes into a lent buffer at a place and gives the place behind them. Where they
 // do not fit, the buffer and the place stay as they are.
 pub fn put_slice(buf: &mut [u8], at: usize, bytes: &[u8]) -> usize
@@ -55,19 +74,13 @@ pub fn put_u8(buf: &mut [u8], at: usize, v: u8) -> usize
 pub fn put_u16(buf: &mut [u8], at: usize, v: u16) -> usize
     ensures { λ r. ⌜ Put (now (buf .entry)) at (littleBytes 2 v) r (now (buf .exit)) ⌝ }
 {
-    let low = (v % 256) as u8;
-    let high = (v / 256 % 256) as u8;
-    put_slice(buf, at, &[low, high])
+    put_slice(buf, at, &u16_bytes(v))
 }
 
 pub fn put_u32(buf: &mut [u8], at: usize, v: u32) -> usize
     ensures { λ r. ⌜ Put (now (buf .entry)) at (littleBytes 4 v) r (now (buf .exit)) ⌝ }
 {
-    let b0 = (v % 256) as u8;
-    let b1 = (v / 256 % 256) as u8;
-    let b2 = (v / 256 / 256 % 256) as u8;
-    let b3 = (v / 256 / 256 / 256 % 256) as u8;
-    put_slice(buf, at, &[b0, b1, b2, b3])
+    put_slice(buf, at, &u32_bytes(v))
 }
 
 pub fn put_address(buf: &mut [u8], at: usize, v: MACAddress) -> usize

@@ -1,45 +1,45 @@
--- `put_addresses` meets its contract: one run is put behind the other, and the room of all is room for each.
+-- `put_addresses` meets its contract: one run is put behind the other, and that there is room is asked of all of them at once.
 -- Assumes nothing.
 use Rattle.data_path_state.proofs.write.put_addresses.Statement.{statement}
 use Rattle.data_path_state.proofs.write.put_addresses.Tie as tie
-use Rattle.data_path_state.specs.Bytes.{infraBytes, oneAddressBytes}
-use Rattle.wire.proofs.Stores.{put-both, room-first, room-second}
+use Rattle.wire.proofs.Stores.{_onward_, run-both}
+use Rattle.wire.specs.Addresses.{addressBytes}
+use Rattle.wire.specs.Numbers.{littleBytes}
 use borrow.Author.Needs.{needs}
-use mathlib.Core.List.{_++_}
 
-put-infra-requires : tie.Need-put-infra-requires
-put-infra-requires c κs =
-    let a = c .before .before .args in
-    let pre = c .before .before .pre in
-    (room-first (a .at) (infraBytes (a .r .«infra_bssid_channel»)) (oneAddressBytes (a .r .«infra_address»)) (room-first (a .at) (infraBytes (a .r .«infra_bssid_channel») ++ oneAddressBytes (a .r .«infra_address»)) (oneAddressBytes (a .r .«awdl_address»)) pre))
+put-address-requires : tie.Need-put-address-requires
+put-address-requires c κs = search needs
 
-put-one-address-requires : tie.Need-put-one-address-requires
-put-one-address-requires c κs =
-    let a = c .before .before .before .before .before .before .args in
-    let pre = c .before .before .before .before .before .before .pre in
-    room-second (oneAddressBytes (a .r .«infra_address»)) (c .before .before .before .put-infra .ensures) (room-first (a .at) (infraBytes (a .r .«infra_bssid_channel») ++ oneAddressBytes (a .r .«infra_address»)) (oneAddressBytes (a .r .«awdl_address»)) pre)
+put-short-requires : tie.Need-put-short-requires
+put-short-requires c κs = search needs
 
-put-one-address-requires-2 : tie.Need-put-one-address-requires-2
-put-one-address-requires-2 c κs =
-    let a = c .before .before .before .before .before .before .before .before .before .before .args in
-    let pre = c .before .before .before .before .before .before .before .before .before .before .pre in
-    room-second (oneAddressBytes (a .r .«awdl_address»)) (put-both (c .before .before .before .before .before .before .before .put-infra .ensures) (c .before .before .before .put-one-address .ensures) (room-first (a .at) (infraBytes (a .r .«infra_bssid_channel») ++ oneAddressBytes (a .r .«infra_address»)) (oneAddressBytes (a .r .«awdl_address»)) pre)) pre
+put-address-requires-2 : tie.Need-put-address-requires-2
+put-address-requires-2 c κs = search needs
+
+put-address-requires-3 : tie.Need-put-address-requires-3
+put-address-requires-3 c κs = search needs
 
 same-length : tie.Need-same-length
 same-length c = search needs
 
 returns : tie.Need-returns
 returns c =
-    let a = c .before .before .before .before .before .before .before .before .before .before .before .before .before .args in
-    let pre = c .before .before .before .before .before .before .before .before .before .before .before .before .before .pre in
-    put-both (put-both (c .before .before .before .before .before .before .before .before .before .before .put-infra .ensures) (c .before .before .before .before .before .before .put-one-address .ensures) (room-first (a .at) (infraBytes (a .r .«infra_bssid_channel») ++ oneAddressBytes (a .r .«infra_address»)) (oneAddressBytes (a .r .«awdl_address»)) pre)) (c .before .before .put-one-address2 .ensures) pre
+    let awdl = c .before .before in
+    let infra = awdl .before .before .before .before in
+    let channel = infra .before .before .before .before in
+    let bssid = channel .before .before .before .before in
+    let i = bssid .before .before .before .before .args .r .«infra_bssid_channel» in
+    run-both (i .present) (addressBytes (i .bssid)) (littleBytes 2 (i .channel))
+    (λ room. bssid .put-address .ensures) (λ room. channel .put-short .ensures)
+    onward (λ room. infra .put-address2 .ensures) onward (λ room. awdl .put-address3 .ensures)
 
 pub put-addresses-spec : {M : Type 1} → statement M
 put-addresses-spec =
     tie.close
     (tie.spec
-    put-infra-requires
-    put-one-address-requires
-    put-one-address-requires-2
+    put-address-requires
+    put-short-requires
+    put-address-requires-2
+    put-address-requires-3
     same-length
     returns)

@@ -1,15 +1,12 @@
--- `DataPathStateTLV::consistent` meets its contract: it is the six tests together.
+-- `DataPathStateTLV::consistent` meets its contract: it is the tests together.
 -- Assumes nothing.
 use Rattle.data_path_state.proofs.data_path_state_tlv.DataPathStateTLV.consistent.Statement.{statement}
 use Rattle.data_path_state.proofs.data_path_state_tlv.DataPathStateTLV.consistent.Tie as tie
 use Rattle.data_path_state.specs.Consistent.{consistent}
 use borrow.Author.Needs.{needs}
 
-flags-match-requires : tie.Need-flags-match-requires
-flags-match-requires c κs = search needs
-
-extended-match-requires : tie.Need-extended-match-requires
-extended-match-requires c κs = search needs
+bits-match-requires : tie.Need-bits-match-requires
+bits-match-requires c κs = search needs
 
 only-with-requires : tie.Need-only-with-requires
 only-with-requires c κs = search needs
@@ -27,8 +24,7 @@ returns : tie.Need-returns
 unfolding consistent
 returns c =
     rw (
-      c .before .before .before .before .before .flags-match .ensures,
-      c .before .before .before .before .extended-match .ensures,
+      c .before .before .before .before .bits-match .ensures,
       c .before .before .before .only-with .ensures,
       c .before .before .channel-right .ensures,
       c .before .words-kept .ensures,
@@ -39,8 +35,7 @@ pub consistent-spec : {M : Type 1} → statement M
 consistent-spec =
     tie.close
     (tie.spec
-    flags-match-requires
-    extended-match-requires
+    bits-match-requires
     only-with-requires
     channel-right-requires
     words-kept-requires

@@ -33,7 +33,7 @@ enum-known-n : tie.Need-enum-known-n
 enum-known-n c = search needs
 
 put-record-requires : tie.Need-put-record-requires
-put-record-requires c κs = omega (arith, settled (c .before), sized _ (settled (c .before) .0) .size)
+put-record-requires c κs = search needs
 
 enum-known-why : tie.Need-enum-known-why
 enum-known-why c = search needs
@@ -45,7 +45,7 @@ returns : tie.Need-returns
 returns c =
     let room = settled (c .before .before .before .before) in
     let w = sized (c .before .before .before .before .before .before .before .before .before .before .args .self) (room .0) in
-    rw (w .right) (wrote-all (c .before .before .put-record .ensures) (sym (w .size)) (room .1))
+    rw (w .right) (wrote-all (c .before .before .put-record .ensures (omega (arith, room .1, w .size))) (sym (w .size)) (room .1))
 
 returns-2 : tie.Need-returns-2
 returns-2 c =
