@@ -1,9 +1,10 @@
 // The head of an action frame, the part behind it, and the gap between its two stamps.
 ghost use mathlib.Core.Path.{_≡_};
-ghost use Prim.Native.Nat.{_≤_};
+ghost use Prim.Native.Nat.{_≤_, min};
 ghost use lib.ListN.{length};
 ghost use Rattle.wire.specs.Answer.{answer, placeOf};
 ghost use Rattle.wire.specs.Said.{saidPlace, saidSize};
+ghost use Rattle.wire.specs.Parts.{partAt};
 ghost use Rattle.wire.specs.Writing.{Put, Wrote};
 ghost use Rattle.action_frame.specs.Frames.{fixedByte, fields, header, tailOf, headerBytes, bytesOf};
 ghost use Rattle.action_frame.specs.Stamps.{delta};
@@ -64,7 +65,7 @@ impl AWDLActionFrame {
 
     // The items of a frame, where they lie in it. A frame that is shorter than its header has none.
     pub fn tail(frame: &[u8]) -> &[u8]
-        ensures { λ r. ⌜ now r ≡ tailOf (now (frame .entry)) ⌝ }
+        ensures { λ r. ⌜ (now r ≡ tailOf (now (frame .entry))) × (r .ptr ≡ partAt (min 12 (length (now (frame .entry)))) (frame .entry .ptr)) ⌝ }
     {
         let len = frame.len();
         if len < AWDLActionFrame::HEADER_SIZE {

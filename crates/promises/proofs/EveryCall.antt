@@ -2,12 +2,15 @@
 -- Assumes nothing.
 use mathlib.Core.Path.{_≡_}
 use denote.Ref.{now}
+use Prim.Native.Nat.{min}
+use lib.ListN.{length}
 use Rattle.wire.specs.Refusals.{numberOf}
 use Rattle.wire.specs.Reading.{field}
 use Rattle.wire.specs.Answer.{answer, placeOf}
 use Rattle.wire.specs.Numbers.{number, littleBytes}
 use Rattle.wire.specs.Words.{laid}
 use Rattle.wire.specs.Addresses.{address, addressBytes}
+use Rattle.wire.specs.Parts.{partAt}
 use Rattle.wire.specs.Writing.{within, Put, Wrote}
 use Rattle.wire.specs.Said.{saidU8, saidU16, saidU32, saidAddress, saidPlace, saidSize}
 use Rattle.channel_sequence.specs.Channels.{encodingOf, entrySize, sizeOfEncoding, keptFlags, supportChannel, channelBandwidth, band, corrected}
@@ -25,7 +28,7 @@ use Rattle.data_path_state.specs.Said.{saidDataPath}
 use Rattle.synchronization_parameters.specs.SynchronizationReader.{synchronization}
 use Rattle.synchronization_parameters.specs.SynchronizationBytes as S
 use Rattle.synchronization_parameters.specs.Said.{synchronizationRead}
-use Rattle.tlvs.specs.Items.{stepAt, valueOf}
+use Rattle.tlvs.specs.Items.{stepAt, valueOf, valueStart}
 use Rattle.tlvs.specs.Walk.{walk, reportOf}
 use Rattle.tlvs.specs.Search.{nextDataPath, nextSynchronization}
 use Rattle.tlvs.specs.ItemBytes.{itemBytes}
@@ -146,7 +149,7 @@ pub record EveryCall : Type 2 where
   pub step : Call tlvs.step.Symbol.routine tlvs.step.ended
       (λ κs a r e. r ≡ stepAt (now (a .0)) (a .1 .0))
   pub value : Call tlvs.value.Symbol.routine tlvs.value.ended
-      (λ κs a r e. now r ≡ valueOf (now (a .0)) (a .1 .0))
+      (λ κs a r e. (now r ≡ valueOf (now (a .0)) (a .1 .0)) × (r .ptr ≡ partAt (valueStart (now (a .0)) (a .1 .0)) (a .0 .ptr)))
   pub end : Call tlvs.end.Symbol.routine tlvs.end.ended
       (λ κs a r e. saidEnd r ≡ reportOf (walk (now (a .0))))
   pub next-data-path : Call tlvs.next_data_path.Symbol.routine tlvs.next_data_path.ended
@@ -174,7 +177,7 @@ pub record EveryCall : Type 2 where
   pub frame-read : Call frames.read.Symbol.routine frames.read.ended
       (λ κs a r e. saidFrame r ≡ header (now (a .0)) 0)
   pub frame-tail : Call frames.tail.Symbol.routine frames.tail.ended
-      (λ κs a r e. now r ≡ tailOf (now (a .0)))
+      (λ κs a r e. (now r ≡ tailOf (now (a .0))) × (r .ptr ≡ partAt (min 12 (length (now (a .0)))) (a .0 .ptr)))
   pub frame-write : Call frames.write.Symbol.routine frames.write.ended
       (λ κs a r e. Wrote (now (a .1 .1 .0)) (answer (F.bytesOf (a .0) (now (a .1 .0)))) (saidSize r) (now (e .1 .1 .0)))
   pub tx-delta : Call stamps.tx_delta.Symbol.routine stamps.tx_delta.ended

@@ -32,3 +32,11 @@ bytesFound (refused why) = []
 -- an item's value stands behind its type and its length; numbers that do not lie within the tail have an empty one
 abbrev pub valueOf : List ℕ → Item → List ℕ
 valueOf tail it = bytesFound (field (it .length) tail (it .at + 3))
+
+-- where it starts: behind the type and the length, or, where it is such an empty one, at the tail's start
+abbrev pub startFound : ℕ → Reading (List ℕ) → ℕ
+startFound at (read bytes next) = at
+startFound at (refused why) = 0
+
+abbrev pub valueStart : List ℕ → Item → ℕ
+valueStart tail it = startFound (it .at + 3) (field (it .length) tail (it .at + 3))

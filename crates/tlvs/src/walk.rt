@@ -1,5 +1,6 @@
 ghost use mathlib.Core.Path.{_≡_};
-ghost use Rattle.tlvs.specs.Items.{stepAt, valueOf};
+ghost use Rattle.wire.specs.Parts.{partAt};
+ghost use Rattle.tlvs.specs.Items.{stepAt, valueOf, valueStart};
 ghost use Rattle.tlvs.specs.Walk.{walk, reportOf};
 ghost use Rattle.tlvs.specs.Said.{saidEnd};
 use crate::item::End;
@@ -46,7 +47,7 @@ pub fn step(tail: &[u8], at: usize) -> Step
 
 // An item's value, as that part of the tail. Numbers that do not lie within the tail have the empty part.
 pub fn value(tail: &[u8], item: Item) -> &[u8]
-    ensures { λ r. ⌜ now r ≡ valueOf (now (tail .entry)) item ⌝ }
+    ensures { λ r. ⌜ (now r ≡ valueOf (now (tail .entry)) item) × (r .ptr ≡ partAt (valueStart (now (tail .entry)) item) (tail .entry .ptr)) ⌝ }
 {
     let at = item.at;
     let length = item.length;

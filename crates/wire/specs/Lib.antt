@@ -1,5 +1,6 @@
 -- Refusals and their numbers; Reading, the words for formats; Answer, the words for calls that read nothing;
--- Numbers and Addresses, the two kinds of field; Words, made of runs of bits; Writing, what a buffer holds afterwards; Said, what each enum of
+-- Numbers and Addresses, the two kinds of field; Words, made of runs of bits; Parts, where a part of a slice lies; Writing, what a buffer holds
+-- afterwards; Said, what each enum of
 -- the code says; Outcomes, the number and the values that it stands for.
 pub mod Refusals
 pub mod Reading
@@ -7,6 +8,7 @@ pub mod Answer
 pub mod Numbers
 pub mod Words
 pub mod Addresses
+pub mod Parts
 pub mod Writing
 pub mod Said
 pub mod Outcomes

@@ -59,17 +59,17 @@ returns-2 : tie.Need-returns-2
 returns-2 c = rw (c .before .before .enum-told2 .given .1) (c .frame-line .ensures)
 
 returns-3 : tie.Need-returns-3
-returns-3 c = rw (c .before .before .before .mark .given .1, ← c .before .before .before .before .before .tail .ensures) (c .item-line .ensures)
+returns-3 c = rw (c .before .before .before .mark .given .1, ← c .before .before .before .before .before .tail .ensures .0) (c .item-line .ensures)
 
 returns-4 : tie.Need-returns-4
 returns-4 c =
     shows-line (ap (standsAt (c .before .before .before .before .before .before .before .before .args .frame .now)) (c .before .before .before .before .mark2 .given .1))
-    (rw (c .before .before .value .ensures, c .before .before .before .before .before .before .tail .ensures) at (c .data-path-line .ensures))
+    (rw (c .before .before .value .ensures .0, c .before .before .before .before .before .before .tail .ensures .0) at (c .data-path-line .ensures))
 
 returns-5 : tie.Need-returns-5
 returns-5 c =
     shows-line (ap (standsAt (c .before .before .before .before .before .before .before .before .args .frame .now)) (c .before .before .before .before .mark3 .given .1))
-    (rw (c .before .before .value2 .ensures, c .before .before .before .before .before .before .tail .ensures) at (c .synchronization-line .ensures))
+    (rw (c .before .before .value2 .ensures .0, c .before .before .before .before .before .before .tail .ensures .0) at (c .synchronization-line .ensures))
 
 returns-6 : tie.Need-returns-6
 returns-6 c = search needs

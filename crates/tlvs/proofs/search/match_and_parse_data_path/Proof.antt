@@ -29,7 +29,7 @@ returns-2 : tie.Need-returns-2
 unfolding matched
 returns-2 c =
     let type = eq-eqb (c .before .before .before .before .before .before .before .args .item .«tlv_type») 0x0C (c .before .before .before .before .if1 .left) in
-    rw (type, ← c .before .before .before .value .ensures, told saidDataPath (c .before .before .read .ensures) (c .enum-told .given .1))
+    rw (type, ← c .before .before .before .value .ensures .0, told saidDataPath (c .before .before .read .ensures) (c .enum-told .given .1))
 
 returns-3 : tie.Need-returns-3
 unfolding matched
@@ -37,7 +37,7 @@ returns-3 c =
     let a = c .before .before .before .before .before .before .before .before .args in
     let type = eq-eqb (a .item .«tlv_type») 0x0C (c .before .before .before .before .before .if1 .left) in
     let said = told saidDataPath (c .before .before .before .read .ensures) (c .before .«record» .given .1) in
-    rw (type, ← c .before .before .before .before .value .ensures, said) (ap (found (c .before .«record» .given .0 .0) (a .item)) (c .before .before .before .before .before .before .before .before .pre))
+    rw (type, ← c .before .before .before .before .value .ensures .0, said) (ap (found (c .before .«record» .given .0 .0) (a .item)) (c .before .before .before .before .before .before .before .before .pre))
 
 pub match-and-parse-data-path-spec : {M : Type 1} → statement M
 match-and-parse-data-path-spec =

@@ -38,7 +38,7 @@ unfolding matched
 returns-2 c =
     let type = eq-eqb (c .before .before .before .before .before .before .before .before .before .args .item .«tlv_type») 0x04 (c .before .before .before .before .before .before .if1 .left) in
     let said = read-beside (synchronization (c .before .before .before .before .before .value .result .now) 0) (c .before .before .before .before .read .ensures) (c .before .enum-told2 .given .1) in
-    rw (type, ← c .before .before .before .before .before .value .ensures, said) (c .no-synchronization2 .ensures)
+    rw (type, ← c .before .before .before .before .before .value .ensures .0, said) (c .no-synchronization2 .ensures)
 
 returns-3 : tie.Need-returns-3
 unfolding matched
@@ -47,7 +47,7 @@ returns-3 c =
     let p = c .before .before .before .read .result .parameters in
     let type = eq-eqb (a .item .«tlv_type») 0x04 (c .before .before .before .before .before .if1 .left) in
     let said = read-beside (synchronization (c .before .before .before .before .value .result .now) 0) (c .before .before .before .read .ensures) (c .enum-told .given .1) in
-    rw (type, ← c .before .before .before .before .value .ensures, said) (ap (λ (next : ℕ). synchronizationFound (found p (a .item) next)) (c .before .before .before .before .before .before .before .before .pre))
+    rw (type, ← c .before .before .before .before .value .ensures .0, said) (ap (λ (next : ℕ). synchronizationFound (found p (a .item) next)) (c .before .before .before .before .before .before .before .before .pre))
 
 pub match-and-parse-synchronization-spec : {M : Type 1} → statement M
 match-and-parse-synchronization-spec =

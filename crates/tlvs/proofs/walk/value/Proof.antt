@@ -1,13 +1,16 @@
 -- `value` meets its contract: the two fields that were placed are the item's first three bytes and its value; where one is short, so is the value's.
 -- Assumes nothing.
+use Prim.Native.Nat.{ℕ}
 use Rattle.tlvs.proofs.walk.value.Statement.{statement}
 use Rattle.tlvs.proofs.walk.value.Tie as tie
 use Rattle.wire.proofs.Bytes.{Placed, placed, unplaced}
 use Rattle.wire.proofs.Places.{field-past}
+use Rattle.wire.specs.Parts.{partAt}
 use Rattle.wire.specs.Reading.{field}
 use Rattle.wire.specs.Said.{saidPlace}
 use borrow.Author.Needs.{needs}
-use mathlib.Core.Path.{sym, ap, _∙_}
+use mathlib.Core.Path.{_≡_, sym, ap, _∙_}
+use native.Mathlib.Nat.{zero-add}
 use native.Mathlib.Omega.{arith}
 
 -- the item's first three bytes, and its value behind them
@@ -18,6 +21,10 @@ part : (c : tie.After-known-told2) →
     let a = c .before .before .before .before .before .before .before .before .before .args in
     Placed (a .item .length) (a .tail .now) (c .before .before .before .before .before .start .given .0 .0) (c .before .next .given .0 .0)
 part c = placed _ _ _ (ap saidPlace (sym (c .before .next .given .1)) ∙ c .before .before .before .field-at2 .ensures)
+
+-- a part from the start on lies where the slice does
+at-start : (p : ℕ × ℕ) → p ≡ partAt 0 p
+at-start p = ap (λ (offset : ℕ). (p .0, offset)) (sym (zero-add (p .1)))
 
 field-at-requires : tie.Need-field-at-requires
 field-at-requires c κs = search needs
@@ -53,20 +60,26 @@ slice-aggregate-result-2 : tie.Need-slice-aggregate-result-2
 slice-aggregate-result-2 c = search needs
 
 returns : tie.Need-returns
-returns c = rw (← head (c .before .before .before .before .before) .place, part (c .before) .whole)
+returns c =
+    let start = head (c .before .before .before .before .before) .place in
+    let whole = part (c .before) .whole in
+    (rw (← start, whole), rw (← start, whole))
 
 returns-2 : tie.Need-returns-2
 returns-2 c =
     let a = c .before .before .before .before .before .before .before .before .before .args in
     let said = ap saidPlace (sym (c .before .enum-told .given .1)) ∙ c .before .before .before .field-at2 .ensures in
-    rw (← head (c .before .before .before .before) .place, unplaced (field (a .item .length) (a .tail .now) (c .before .before .before .before .before .start .given .0 .0)) said)
+    let start = head (c .before .before .before .before) .place in
+    let short = unplaced (field (a .item .length) (a .tail .now) (c .before .before .before .before .before .start .given .0 .0)) said in
+    (rw (← start, short), rw (← start, short) (at-start (a .tail .ptr)))
 
 returns-3 : tie.Need-returns-3
 returns-3 c =
     let a = c .before .before .before .before .before .args in
     let said = ap saidPlace (sym (c .before .enum-told2 .given .1)) ∙ c .before .before .before .field-at .ensures in
     let short = unplaced (field 3 (a .tail .now) (a .item .at)) said in
-    rw (field-past 3 (a .item .length) (a .tail .now) (a .item .at) short)
+    let past = field-past 3 (a .item .length) (a .tail .now) (a .item .at) short in
+    (rw past, rw past (at-start (a .tail .ptr)))
 
 pub value-spec : {M : Type 1} → statement M
 value-spec =
