@@ -15,6 +15,7 @@ use Rattle.data_path_state.specs.Bytes.{laidDown, sum}
 use Rattle.data_path_state.specs.Mended.{mended}
 use Rattle.data_path_state.specs.Rewritten as D
 use Rattle.data_path_state.proofs.Sizes.{size-range}
+use Rattle.data_path_state.proofs.Accepted.{read-consistent}
 use Rattle.data_path_state.proofs.Again.{written-again as data-path-again}
 use Rattle.data_path_state.proofs.Mending.{mended-consistent, mended-same}
 use Rattle.synchronization_parameters.specs.declared.synchronization_parameters_tlv.SynchronizationParametersTLV.{SynchronizationParametersTLV}
@@ -47,6 +48,8 @@ pub record Demand2 : Type 2 where
   -- a data path record takes 2 to 57 bytes, and its words keep these bits
   pub sizes : (r : DataPathStateTLV) → (2 ≤ sum r) × (sum r ≤ 57)
   pub masks : (maskOf extendedKept ≡ 0xFF7F) × (maskOf optionsKept ≡ 0xFFFFFE6A)
+  -- a data path record that was read is consistent, so that it can be written again
+  pub data-paths-consistent : (s : List ℕ) (at : ℕ) {next : ℕ} {r : DataPathStateTLV} → dataPath s at ≡ read r next → consistent r ≡ true
   -- a value that was read and is written again gives the bytes that `rewritten` says: its own, but for what is dropped
   pub data-paths-again : (s : List ℕ) (at : ℕ) {next : ℕ} {r : DataPathStateTLV} → dataPath s at ≡ read r next
       → D.rewritten s at ≡ read (laidDown r) next
@@ -78,6 +81,7 @@ demand2 =
       frames = frame-round;
       sizes = size-range;
       masks = (refl, refl);
+      data-paths-consistent = λ s at e. read-consistent .of {s = s} {at = at} e;
       data-paths-again = λ s at e. data-path-again .of {s = s} {at = at} e;
       synchronizations-again = λ s small e. synchronization-again s small e;
       mended-consistent = mended-consistent;

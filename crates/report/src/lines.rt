@@ -1,4 +1,4 @@
-// A function for each line. Its words and the most digits of its numbers leave room in 128 bytes.
+// The lines by their shape. The words of each and the most digits of its numbers leave room in 128 bytes.
 ghost use Prim.Native.Nat.{_+_, _≤_};
 ghost use mathlib.Core.Path.{_≡_};
 ghost use mathlib.Core.List.{_++_};
@@ -13,6 +13,7 @@ use action_frame::AWDLActionFrame;
 use action_frame::Delta;
 use action_frame::tx_delta;
 
+// Each of these is a cast: a call's contract gives its callers the equation that a cast would have them prove.
 pub(crate) fn of_u8(x: u8) -> u64
     ensures { λ r. ⌜ r ≡ x ⌝ }
 {
@@ -82,7 +83,7 @@ pub(crate) fn header(out: &mut [u8], f: AWDLActionFrame) -> usize
     put_word(out, d, b"\n")
 }
 
-// The place is that in the frame.
+// The place is counted from the start of the frame.
 pub(crate) fn item(out: &mut [u8], place: u64, tlv_type: u64, len: u64) -> usize
     requires { ⌜ 128 ≤ length (now out) ⌝ }
     ensures { λ r. ⌜ Laid (now (out .entry)) 0 (named "item at=" place ++ named " type=" «tlv_type» ++ named " length=" len ++ text "\n") r (now (out .exit)) ⌝ }

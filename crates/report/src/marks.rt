@@ -148,7 +148,7 @@ fn item_line(tail: &[u8], at: usize, items: usize, out: &mut [u8]) -> Line
     }
 }
 
-// The line at a mark, from the start of the lent buffer. No line is longer than that.
+// The line at a mark, from the start of the lent buffer, which is as long as any line.
 pub fn next_line(frame: &[u8], mark: Mark, out: &mut [u8; 128]) -> Line
     ensures { λ r. ⌜ Shows (now (out .entry)) (standsAt (now (frame .entry)) mark) r (now (out .exit)) ⌝ }
 {
