@@ -42,12 +42,12 @@ header-back f w =
     (made-back _ (number-back 4 (f .«target_tx_time» .0) (w .target))))))
 
 -- the bytes of a frame: as many as its header and its tail have, and read back as both, with anything behind
-pub record Filled (f : AWDLActionFrame) (tail : List ℕ) : Type 0 where
+pub record FrameFilled (f : AWDLActionFrame) (tail : List ℕ) : Type 0 where
   pub size : length (bytesOf f tail) ≡ 12 + length tail
   pub head : (behind : List ℕ) → header (bytesOf f tail ++ behind) 0 ≡ read f 12
   pub rest : tailOf (bytesOf f tail) ≡ tail
 
-pub round-trip : (f : AWDLActionFrame) (tail : List ℕ) → InWidth f → Filled f tail
+pub round-trip : (f : AWDLActionFrame) (tail : List ℕ) → InWidth f → FrameFilled f tail
 round-trip f tail w =
     record {
       size = length-bytes f tail;

@@ -85,22 +85,22 @@ fill-step s i a b n h =
     rw (both, first) (simp append-assoc)
 
 -- a size that can be had: the encoding is listed, the bytes are consistent, and the size is that of sixteen entries
-pub record Sized (q : ChannelSequence) (n : ℕ) : Type 0 where
+pub record SequenceSized (q : ChannelSequence) (n : ℕ) : Type 0 where
   pub encoding : ChannelEncoding
   pub found : encodingOf (q .encoding) ≡ answer encoding
   pub consistent : consistentBytes encoding (q .bytes) ≡ true
   pub size : n ≡ 16 * entrySize encoding
 
-pub sized : (q : ChannelSequence) {n : ℕ} → sizeOf q ≡ answer n → Sized q n
-sized q {n} e = go (encodingOf (q .encoding)) refl
+pub sequence-sized : (q : ChannelSequence) {n : ℕ} → sizeOf q ≡ answer n → SequenceSized q n
+sequence-sized q {n} e = go (encodingOf (q .encoding)) refl
   where
     settle : (encoding : ChannelEncoding) → encodingOf (q .encoding) ≡ answer encoding
-        → (b : Bool) → consistentBytes encoding (q .bytes) ≡ b → Sized q n
+        → (b : Bool) → consistentBytes encoding (q .bytes) ≡ b → SequenceSized q n
     settle encoding f true h =
         let e′ = rw (f, h) at e in record { encoding = encoding; found = f; consistent = h; size = cc }
     settle encoding f false h = absurd (let e′ = rw (f, h) at e in let z : _≡_ {A = ℕ} 0 1 = cc in omega arith)
 
-    go : (found : Answer ChannelEncoding) → encodingOf (q .encoding) ≡ found → Sized q n
+    go : (found : Answer ChannelEncoding) → encodingOf (q .encoding) ≡ found → SequenceSized q n
     go (answer encoding) f = settle encoding f (consistentBytes encoding (q .bytes)) refl
     go (refusal why) f = absurd (let e′ = rw f at e in let z : _≡_ {A = ℕ} 0 1 = cc in omega arith)
 
@@ -110,7 +110,7 @@ size-most Simple = omega arith
 size-most Legacy = omega arith
 size-most OpClass = omega arith
 
-pub wire-bytes : {q : ChannelSequence} {n : ℕ} → Sized q n → bytesOf q ≡ answer (take n (q .bytes))
+pub wire-bytes : {q : ChannelSequence} {n : ℕ} → SequenceSized q n → bytesOf q ≡ answer (take n (q .bytes))
 wire-bytes w = rw (w .found, w .consistent, w .size)
 
 -- the size is the number of bytes that are written

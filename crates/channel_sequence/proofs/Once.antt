@@ -4,7 +4,7 @@ use Prim.Native.Nat.{ℕ}
 use mathlib.Core.Path.{_≡_, refl}
 use mathlib.Core.Bool.{Bool, cond}
 use Rattle.wire.specs.Answer.{Answer}
-use Rattle.wire.proofs.Once.{once, ofAnswer}
+use Rattle.wire.proofs.Once.{only-one, ofAnswer}
 use Rattle.channel_sequence.specs.declared.channel.ChannelEncoding.{ChannelEncoding}
 use Rattle.channel_sequence.specs.declared.channel.FoundEncoding.{FoundEncoding}
 use Rattle.channel_sequence.specs.declared.channel.Corrected.{Corrected}
@@ -13,14 +13,14 @@ use Rattle.channel_sequence.specs.Said.{saidEncoding, saidCorrected, sai
 
 pub onceEncoding : {m : Answer ChannelEncoding} {a b : FoundEncoding} → saidEncoding a ≡ m → saidEncoding b ≡ m → a ≡ b
 onceEncoding =
-    once saidEncoding (ofAnswer FoundEncoding.Known FoundEncoding.Refused)
+    only-one saidEncoding (ofAnswer FoundEncoding.Known FoundEncoding.Refused)
     (elim [ FoundEncoding.Known encoding ↦ refl | FoundEncoding.Refused why ↦ refl ])
 
 pub onceCorrected : {m : Answer ℕ} {a b : Corrected} → saidCorrected a ≡ m → saidCorrected b ≡ m → a ≡ b
 onceCorrected =
-    once saidCorrected (ofAnswer Corrected.Channel Corrected.Refused) (elim [ Corrected.Channel channel ↦ refl | Corrected.Refused why ↦ refl ])
+    only-one saidCorrected (ofAnswer Corrected.Channel Corrected.Refused) (elim [ Corrected.Channel channel ↦ refl | Corrected.Refused why ↦ refl ])
 
 pub onceConsistent : {m : Answer Bool} {a b : Consistency} → saidConsistent a ≡ m → saidConsistent b ≡ m → a ≡ b
 onceConsistent =
-    once saidConsistent (ofAnswer (λ b. cond b Consistency.Yes Consistency.No) Consistency.Refused)
+    only-one saidConsistent (ofAnswer (λ b. cond b Consistency.Yes Consistency.No) Consistency.Refused)
     (elim [ Consistency.Yes ↦ refl | Consistency.No ↦ refl | Consistency.Refused why ↦ refl ])

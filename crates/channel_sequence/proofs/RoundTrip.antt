@@ -53,16 +53,16 @@ restored Legacy bytes whole e =
 restored OpClass bytes whole e = rw (take-all 32 bytes (omega arith)) (padded-full bytes whole)
 
 -- the bytes of a sequence: as many as its size says, and read back as the sequence
-pub record Filled (q : ChannelSequence) : Type 0 where
+pub record SequenceFilled (q : ChannelSequence) : Type 0 where
   pub bytes : List ℕ
   pub written : bytesOf q ≡ answer bytes
   pub size : sizeOf q ≡ answer (length bytes)
   pub back : Back (sequence (q .encoding)) bytes q
 
-pub round-trip : (q : ChannelSequence) → length (q .bytes) ≡ 32 → consistent q ≡ answer true → Filled q
+pub round-trip : (q : ChannelSequence) → length (q .bytes) ≡ 32 → consistent q ≡ answer true → SequenceFilled q
 round-trip q whole e = go (encodingOf (q .encoding)) refl
   where
-    go : (found : Answer ChannelEncoding) → encodingOf (q .encoding) ≡ found → Filled q
+    go : (found : Answer ChannelEncoding) → encodingOf (q .encoding) ≡ found → SequenceFilled q
     go (answer encoding) f =
         let right : consistentBytes encoding (q .bytes) ≡ true = let e′ = rw f at e in cc in
         let most = size-most encoding in
@@ -81,7 +81,7 @@ round-trip q whole e = go (encodingOf (q .encoding)) refl
     go (refusal why) f = absurd (let e′ = rw f at e in let z : _≡_ {A = ℕ} 0 1 = cc in omega arith)
 
 -- a consistent sequence, written into enough room, reads back as itself, and what stood behind its size still stands there
-pub written-back : (q : ChannelSequence) (s : List ℕ) (w : Filled q) → length (w .bytes) ≤ length s
+pub written-back : (q : ChannelSequence) (s : List ℕ) (w : SequenceFilled q) → length (w .bytes) ≤ length s
     → let after : List ℕ = afterwards s (bytesOf q) (within (length s) (lengthOf (bytesOf q))) in
     (sequence (q .encoding) after 0 ≡ read q (length (w .bytes))) × (drop (length (w .bytes)) after ≡ drop (length (w .bytes)) s)
 written-back q s w h =

@@ -27,16 +27,16 @@ resultCorrected r = result 0 (saidCorrected r)
 abbrev pub resultConsistent : Consistency → Result Bool
 resultConsistent r = result false (saidConsistent r)
 
-abbrev pub placed : Place → ChannelSequence → Reading ChannelSequence
-placed (Place.At next) q = read q next
-placed (Place.Refused why) q = refused why
+abbrev pub sequenceOf : Place → ChannelSequence → Reading ChannelSequence
+sequenceOf (Place.At next) q = read q next
+sequenceOf (Place.Refused why) q = refused why
 
 abbrev pub outcomeSequence : ℕ → ReadSequence → Outcome ChannelSequence
-outcomeSequence at r = outcome zeroSequence at (placed (r .answer) (r .sequence))
+outcomeSequence at r = outcome zeroSequence at (sequenceOf (r .answer) (r .sequence))
 
-abbrev pub made : Fixed → ChannelSequence → Answer ChannelSequence
-made Fixed.Made q = answer q
-made (Fixed.Refused why) q = refusal why
+abbrev pub fixedOf : Fixed → ChannelSequence → Answer ChannelSequence
+fixedOf Fixed.Made q = answer q
+fixedOf (Fixed.Refused why) q = refusal why
 
 abbrev pub resultFixed : FixedSequence → Result ChannelSequence
-resultFixed r = result zeroSequence (made (r .answer) (r .sequence))
+resultFixed r = result zeroSequence (fixedOf (r .answer) (r .sequence))

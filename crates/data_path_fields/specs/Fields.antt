@@ -7,7 +7,7 @@ use Rattle.wire.specs.declared.refusal.Refusal.the-variants.{UnicastLength}
 use Rattle.wire.specs.Reading.{Reader, field, give, refuse, when, _>>=_}
 use Rattle.wire.specs.Numbers.{number, bit}
 use Rattle.wire.specs.Addresses.{zeroAddress, address}
-use Rattle.wire.specs.Words.{laid}
+use Rattle.wire.specs.Words.{wordBy}
 use Rattle.data_path_fields.specs.declared.misc.DataPathChannel.{DataPathChannel}
 use Rattle.data_path_fields.specs.declared.fields.CountryCode.{CountryCode}
 use Rattle.data_path_fields.specs.declared.fields.OptionalChannel.{OptionalChannel}
@@ -83,7 +83,7 @@ abbrev pub noUnicast : Unicast
 noUnicast = record { options = noOptions; ext = noWord }
 
 abbrev pub someOptions : ℕ → OptionalOptions
-someOptions word = record { present = true; options = record { 0 = laid optionsKept word } }
+someOptions word = record { present = true; options = record { 0 = wordBy optionsKept word } }
 
 abbrev pub oneWord : Reader OptionalWord
 oneWord = do
@@ -145,7 +145,7 @@ extendedOf word = do
 abbrev pub extended : Reader Extended
 extended = do
   word ← number 2
-  extendedOf (laid extendedKept word)
+  extendedOf (wordBy extendedKept word)
 
 abbrev pub body : ℕ → Reader Body
 body flags = do

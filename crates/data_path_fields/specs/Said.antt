@@ -41,9 +41,9 @@ abbrev pub saidInfra : ReadInfra → Reading InfraBssidChannel
 saidInfra (ReadInfra.Read v next) = read v next
 saidInfra (ReadInfra.Refused why) = refused why
 
-abbrev pub saidAddress : ReadOptionalAddress → Reading OptionalAddress
-saidAddress (ReadOptionalAddress.Read v next) = read v next
-saidAddress (ReadOptionalAddress.Refused why) = refused why
+abbrev pub saidOptionalAddress : ReadOptionalAddress → Reading OptionalAddress
+saidOptionalAddress (ReadOptionalAddress.Read v next) = read v next
+saidOptionalAddress (ReadOptionalAddress.Refused why) = refused why
 
 abbrev pub saidAddresses : ReadAddresses → Reading Addresses
 saidAddresses (ReadAddresses.Read v next) = read v next

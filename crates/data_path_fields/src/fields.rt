@@ -1,5 +1,5 @@
 ghost use mathlib.Core.Path.{_≡_};
-ghost use Rattle.wire.specs.Words.{laid};
+ghost use Rattle.wire.specs.Words.{wordBy};
 ghost use Rattle.data_path_fields.specs.Words.{extendedKept};
 use crate::misc::DataPathChannel;
 use crate::misc::DataPathStats;
@@ -78,7 +78,7 @@ impl DataPathExtendedFlags {
     pub const KEEP: u16 = 0xFF7F;
 
     pub fn from_bits(bits: u16) -> DataPathExtendedFlags
-        ensures { λ r. ⌜ r .0 ≡ laid extendedKept bits ⌝ }
+        ensures { λ r. ⌜ r .0 ≡ wordBy extendedKept bits ⌝ }
     {
         DataPathExtendedFlags(bits & DataPathExtendedFlags::KEEP)
     }

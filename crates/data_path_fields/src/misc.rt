@@ -1,5 +1,5 @@
 ghost use mathlib.Core.Path.{_≡_};
-ghost use Rattle.wire.specs.Words.{laid};
+ghost use Rattle.wire.specs.Words.{wordBy};
 ghost use Rattle.data_path_fields.specs.Words.{channelOf, wordOf, optionsKept};
 
 pub struct DataPathStats {
@@ -101,7 +101,7 @@ impl UnicastOptions {
     pub const KEEP: u32 = 0xFFFF_FE6A;
 
     pub fn from_bits(bits: u32) -> UnicastOptions
-        ensures { λ r. ⌜ r .0 ≡ laid optionsKept bits ⌝ }
+        ensures { λ r. ⌜ r .0 ≡ wordBy optionsKept bits ⌝ }
     {
         UnicastOptions(bits & UnicastOptions::KEEP)
     }

@@ -2,7 +2,7 @@ ghost use mathlib.Core.Path.{_≡_};
 ghost use Rattle.wire.specs.Addresses.{zeroAddress};
 ghost use Rattle.wire.specs.Reading.{when};
 ghost use Rattle.data_path_fields.specs.Fields as D;
-ghost use Rattle.data_path_fields.specs.Said.{saidCountry, saidChannel, saidHead, saidInfra, saidAddress, saidAddresses};
+ghost use Rattle.data_path_fields.specs.Said.{saidCountry, saidChannel, saidHead, saidInfra, saidOptionalAddress, saidAddresses};
 ghost use Rattle.data_path_fields.specs.Said.{saidWord, saidUnicast, saidTriggerId, saidStats, saidExtended, saidBody};
 use crate::fields::CountryCode;
 use crate::fields::DataPathExtendedFlags;
@@ -180,7 +180,7 @@ pub(crate) enum ReadOptionalAddress {
 }
 
 fn one_address(s: &[u8], at: usize, present: bool) -> ReadOptionalAddress
-    ensures { λ r. ⌜ saidAddress r ≡ when present D.noAddress D.oneAddress (now (s .entry)) at ⌝ }
+    ensures { λ r. ⌜ saidOptionalAddress r ≡ when present D.noAddress D.oneAddress (now (s .entry)) at ⌝ }
 {
     if !present {
         let address = no_address();

@@ -9,7 +9,7 @@ use Rattle.wire.specs.declared.refusal.Refusal.the-variants.{UnicastLength}
 use Rattle.wire.specs.Reading.{Reader, field, give, _>>=_}
 use Rattle.wire.specs.Numbers.{number, littleBytes, bit}
 use Rattle.wire.specs.Addresses.{address}
-use Rattle.wire.specs.Words.{laid}
+use Rattle.wire.specs.Words.{wordBy}
 use Rattle.wire.proofs.Again.{Again, again-give, again-refuse, again-bind, again-step, again-group, again-when, again-cond}
 use Rattle.data_path_fields.specs.declared.misc.DataPathChannel.{DataPathChannel}
 use Rattle.data_path_fields.specs.declared.read.Head.{Head}
@@ -20,7 +20,7 @@ use Rattle.data_path_fields.specs.declared.read.Extended.{Extended}
 use Rattle.data_path_fields.specs.Words.{extendedKept, channelOf, wordOf}
 use Rattle.data_path_fields.specs.Fields.{head, addresses, body, country, channelWord, infra, oneAddress, oneWord, optionsAnd, unicast, triggerId, stats, extendedOf, extended}
 use Rattle.data_path_state.specs.DataPath.{dataPath}
-use Rattle.data_path_state.specs.Bytes.{countryBytes, channelBytes, infraBytes, oneAddressBytes, wordBytes, triggerIdBytes, statsBytes, laidDown}
+use Rattle.data_path_state.specs.Bytes.{countryBytes, channelBytes, infraBytes, oneAddressBytes, wordBytes, triggerIdBytes, statsBytes, recordBytes}
 use Rattle.data_path_state.specs.Rewritten.{countryAgain, channelAgain, infraAgain, addressAgain, wordAgain, oneAgain, twoAgain, unicastAgain, statsAgain, announcedAgain, extendedAgain, Front, headAgain, addressesAgain, bodyAgain, rewritten}
 
 country-again : Again country countryAgain countryBytes
@@ -88,7 +88,7 @@ announced-again word =
     (again-when (bit 5 word) stats-again refl) λ trigger rlfc stats. refl
 
 extended-again : Again extended extendedAgain extendedOut
-extended-again = again-bind (number 2) λ word. announced-again (laid extendedKept word)
+extended-again = again-bind (number 2) λ word. announced-again (wordBy extendedKept word)
 
 abbrev front : Head → Front
 front h = record { flags = h .flags; bytes = littleBytes 2 (h .flags) ++ countryBytes (h .country) ++ channelBytes (h .channel) }
@@ -115,8 +115,8 @@ body-again flags =
     three _ _ (addresses-again flags) (again-when (bit 12 flags) unicast-again refl)
     (again-when (bit 15 flags) extended-again refl) λ addresses unicast extended. refl
 
-pub written-again : Again dataPath rewritten laidDown
-unfolding laidDown
+pub written-again : Again dataPath rewritten recordBytes
+unfolding recordBytes
 written-again =
     again-step _ head-again λ h. again-step _ (body-again (h .flags)) λ b.
     again-give (append-assoc (front h .bytes ++ addressesOut (b .addresses)) (unicastOf (b .unicast)) (extendedOut (b .extended))

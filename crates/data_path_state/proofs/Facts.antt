@@ -1,7 +1,7 @@
 -- What goes only with another adds nothing to it, and what is zero where it is missing is itself: by cases on Booleans.
 -- Assumes nothing.
 use Prim.Native.Nat.{ℕ}
-use Rattle.wire.proofs.Tests.{row, nth}
+use Rattle.wire.proofs.Tests.{allTrue, nth}
 use borrow.Author.Tests.{eqb-true}
 use lib.Dec.{eqb}
 use lib.ListN.{getD, List·getD-map}
@@ -17,7 +17,7 @@ abbrev pub isZero : ℕ → Bool
 isZero n = eqb n 0
 
 -- numbers that all pass that test
-pub each-zero : (ns : List ℕ) → row true (map isZero ns) ≡ true → (i : ℕ) → getD ns i 0 ≡ 0
+pub each-zero : (ns : List ℕ) → allTrue true (map isZero ns) ≡ true → (i : ℕ) → getD ns i 0 ≡ 0
 each-zero ns e i = eqb-true (getD ns i 0) 0 (sym (List·getD-map isZero ns i 0) ∙ nth true (map isZero ns) e i)
 
 -- a thing that goes only with another adds nothing to it

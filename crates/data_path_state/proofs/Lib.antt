@@ -3,7 +3,7 @@ pub mod Right
 pub mod Sizes
 pub mod RoundTrip
 pub mod Values
-pub mod Accepted
+pub mod ReadConsistent
 pub mod Facts
 pub mod Announced
 pub mod Optional

@@ -1,7 +1,7 @@
 -- Mending makes a record consistent but for its channel, and leaves a consistent one as it is: each field by itself, and each word by its runs.
 -- Assumes nothing.
 use Prim.Native.Nat.{ℕ, _+_, _^_, _<_}
-use Rattle.data_path_state.proofs.Announced.{announced, laid-spare, announced-same}
+use Rattle.data_path_state.proofs.Announced.{announced, word-spare, announced-same}
 use Rattle.wire.proofs.Tests.{nth}
 use Rattle.data_path_state.proofs.Facts.{_and_, adds-none, last-of, one-of, neither, number-same}
 use Rattle.data_path_state.proofs.Optional as O
@@ -11,8 +11,8 @@ use Rattle.data_path_state.specs.Mended.{mended, hasOptions, hasExtended
 use Rattle.data_path_fields.specs.Words.{extendedKept, optionsKept}
 use Rattle.data_path_state.specs.declared.data_path_state_tlv.DataPathStateTLV.{DataPathStateTLV}
 use Rattle.data_path_fields.specs.declared.fields.OptionalChannel.{OptionalChannel}
-use Rattle.wire.proofs.Words.{laid-twice}
-use Rattle.wire.specs.Words.{laid}
+use Rattle.wire.proofs.Words.{word-twice}
+use Rattle.wire.specs.Words.{wordBy}
 use borrow.Author.Tests.{eqb-true, eq-eqb}
 use lib.Dec.{eqb}
 use lib.ListN.{take, drop}
@@ -50,17 +50,17 @@ onlyTests r =
 
 abbrev absentTests : DataPathStateTLV → List Bool
 absentTests r =
-    O.sound O.country (r .«country_code»)
-    ∷ O.sound O.channel (r .«channel_map»)
-    ∷ O.sound O.infra (r .«infra_bssid_channel»)
-    ∷ O.sound O.address (r .«infra_address»)
-    ∷ O.sound O.address (r .«awdl_address»)
+    O.sound O.country-kind (r .«country_code»)
+    ∷ O.sound O.channel-kind (r .«channel_map»)
+    ∷ O.sound O.infra-kind (r .«infra_bssid_channel»)
+    ∷ O.sound O.address-kind (r .«infra_address»)
+    ∷ O.sound O.address-kind (r .«awdl_address»)
     ∷ (r .«unicast_options» .present || eqb (r .«unicast_options» .options .0) 0)
-    ∷ O.sound O.word (r .«unicast_options_ext»)
+    ∷ O.sound O.word-kind (r .«unicast_options_ext»)
     ∷ (r .«extended_flags» .present || eqb (r .«extended_flags» .flags .0) 0)
-    ∷ O.sound O.word (r .rlfc)
-    ∷ O.sound O.triggerId (r .«log_trigger_id»)
-    ∷ O.sound O.stats (r .stats)
+    ∷ O.sound O.word-kind (r .rlfc)
+    ∷ O.sound O.trigger-id-kind (r .«log_trigger_id»)
+    ∷ O.sound O.stats-kind (r .stats)
     ∷ []
 
 -- what goes only with the options or with the extended word adds neither
@@ -79,22 +79,22 @@ extended-there r t =
 
 -- flags that say what is there are laid out as they are
 flags-same : (r : DataPathStateTLV) → r .flags .0 < 2 ^ 16 → flagsMatch r ≡ true → onlyWith r ≡ true
-    → laid (flagsRuns r) (r .flags .0) ≡ r .flags .0
+    → wordBy (flagsRuns r) (r .flags .0) ≡ r .flags .0
 flags-same r h f t =
     announced-same (flagsRuns r) (r .flags .0) (rw (options-there r t, extended-there r t) f) (omega arith)
 
 -- and so are kept words that are zero where they are missing
-options-same : (w : ℕ) → laid optionsKept w ≡ w → (b : Bool) → (b || eqb w 0) ≡ true
-    → cond b (laid optionsKept w) 0 ≡ w
+options-same : (w : ℕ) → wordBy optionsKept w ≡ w → (b : Bool) → (b || eqb w 0) ≡ true
+    → cond b (wordBy optionsKept w) 0 ≡ w
 options-same w e b t = ap (λ (n : ℕ). cond b n 0) e ∙ number-same b w t
 
 extended-same : (r : DataPathStateTLV) → let x = r .«extended_flags» .flags .0 in
-    extendedMatch r ≡ true → laid extendedKept x ≡ x → (r .«extended_flags» .present || eqb x 0) ≡ true
-    → laid (extendedRuns r) (cond (r .«extended_flags» .present) x 0) ≡ x
+    extendedMatch r ≡ true → wordBy extendedKept x ≡ x → (r .«extended_flags» .present || eqb x 0) ≡ true
+    → wordBy (extendedRuns r) (cond (r .«extended_flags» .present) x 0) ≡ x
 extended-same r m e t =
     let x = r .«extended_flags» .flags .0 in
-    ap (λ (n : ℕ). laid (extendedRuns r) n) (number-same (r .«extended_flags» .present) x t)
-    ∙ announced-same (extendedRuns r) x m (rw e at (laid-spare extendedKept x))
+    ap (λ (n : ℕ). wordBy (extendedRuns r) n) (number-same (r .«extended_flags» .present) x t)
+    ∙ announced-same (extendedRuns r) x m (rw e at (word-spare extendedKept x))
 
 pub elsewhere-same : (r : DataPathStateTLV) → r .flags .0 < 2 ^ 16 → Elsewhere r → mended r ≡ r
 unfolding mended
@@ -102,23 +102,23 @@ elsewhere-same r h e =
     let o = r .«unicast_options» .options .0 in
     let x = r .«extended_flags» .flags .0 in
     let a = nth true (absentTests r) (e .absent) in
-    let w = nth true (eqb (laid extendedKept x) x ∷ eqb (laid optionsKept o) o ∷ []) (e .words) in
-    let options = options-same o (eqb-true (laid optionsKept o) o (w 1)) (r .«unicast_options» .present) (a 5) in
-    let extended = extended-same r (e .extended) (eqb-true (laid extendedKept x) x (w 0)) (a 7) in
+    let w = nth true (eqb (wordBy extendedKept x) x ∷ eqb (wordBy optionsKept o) o ∷ []) (e .words) in
+    let options = options-same o (eqb-true (wordBy optionsKept o) o (w 1)) (r .«unicast_options» .present) (a 5) in
+    let extended = extended-same r (e .extended) (eqb-true (wordBy extendedKept x) x (w 0)) (a 7) in
     λ i.
     record {
       flags = record { 0 = flags-same r h (e .flags) (e .only) i };
-      «country_code» = O.mend-same O.country (r .«country_code») (a 0) i;
-      «channel_map» = O.mend-same O.channel (r .«channel_map») (a 1) i;
-      «infra_bssid_channel» = O.mend-same O.infra (r .«infra_bssid_channel») (a 2) i;
-      «infra_address» = O.mend-same O.address (r .«infra_address») (a 3) i;
-      «awdl_address» = O.mend-same O.address (r .«awdl_address») (a 4) i;
+      «country_code» = O.mend-same O.country-kind (r .«country_code») (a 0) i;
+      «channel_map» = O.mend-same O.channel-kind (r .«channel_map») (a 1) i;
+      «infra_bssid_channel» = O.mend-same O.infra-kind (r .«infra_bssid_channel») (a 2) i;
+      «infra_address» = O.mend-same O.address-kind (r .«infra_address») (a 3) i;
+      «awdl_address» = O.mend-same O.address-kind (r .«awdl_address») (a 4) i;
       «unicast_options» = record { present = options-there r (e .only) i; options = record { 0 = options i } };
-      «unicast_options_ext» = O.mend-same O.word (r .«unicast_options_ext») (a 6) i;
+      «unicast_options_ext» = O.mend-same O.word-kind (r .«unicast_options_ext») (a 6) i;
       «extended_flags» = record { present = extended-there r (e .only) i; flags = record { 0 = extended i } };
-      rlfc = O.mend-same O.word (r .rlfc) (a 8) i;
-      «log_trigger_id» = O.mend-same O.triggerId (r .«log_trigger_id») (a 9) i;
-      stats = O.mend-same O.stats (r .stats) (a 10) i;
+      rlfc = O.mend-same O.word-kind (r .rlfc) (a 8) i;
+      «log_trigger_id» = O.mend-same O.trigger-id-kind (r .«log_trigger_id») (a 9) i;
+      stats = O.mend-same O.stats-kind (r .stats) (a 10) i;
     }
 
 pub mended-same : (r : DataPathStateTLV) → r .flags .0 < 2 ^ 16 → consistent r ≡ true → mended r ≡ r
@@ -131,11 +131,11 @@ mended-flags r =
     let f = flagsRuns r in
     let w = r .flags .0 in
     rw (
-      O.mend-there O.infra (r .«infra_bssid_channel»),
-      O.mend-there O.address (r .«infra_address»),
-      O.mend-there O.address (r .«awdl_address»),
-      O.mend-there O.country (r .«country_code»),
-      O.mend-there O.channel (r .«channel_map»),
+      O.mend-there O.infra-kind (r .«infra_bssid_channel»),
+      O.mend-there O.address-kind (r .«infra_address»),
+      O.mend-there O.address-kind (r .«awdl_address»),
+      O.mend-there O.country-kind (r .«country_code»),
+      O.mend-there O.channel-kind (r .«channel_map»),
     )
     (announced [] (r .«infra_bssid_channel» .present) (drop 1 f) w
     and announced (take 1 f) (r .«infra_address» .present) (drop 2 f) w
@@ -155,9 +155,9 @@ mended-extended r =
     let x = extendedRuns r in
     let w = extendedWord r in
     rw (
-      O.mend-there O.triggerId (r .«log_trigger_id»),
-      O.mend-there O.word (r .rlfc),
-      O.mend-there O.stats (r .stats),
+      O.mend-there O.trigger-id-kind (r .«log_trigger_id»),
+      O.mend-there O.word-kind (r .rlfc),
+      O.mend-there O.stats-kind (r .stats),
     )
     (announced [] (r .«log_trigger_id» .present) (drop 1 x) w
     and announced (take 2 x) (r .rlfc .present) (drop 3 x) w
@@ -171,10 +171,10 @@ mended-only r =
     let l = r .rlfc .present in
     let s = r .stats .present in
     rw (
-      O.mend-there O.word (r .«unicast_options_ext»),
-      O.mend-there O.triggerId (r .«log_trigger_id»),
-      O.mend-there O.word (r .rlfc),
-      O.mend-there O.stats (r .stats),
+      O.mend-there O.word-kind (r .«unicast_options_ext»),
+      O.mend-there O.trigger-id-kind (r .«log_trigger_id»),
+      O.mend-there O.word-kind (r .rlfc),
+      O.mend-there O.stats-kind (r .stats),
     )
     (last-of (r .«unicast_options» .present) (r .«unicast_options_ext» .present)
     and one-of (x || t || l) t s (one-of (x || t) t l (last-of x t))
@@ -182,27 +182,27 @@ mended-only r =
     and last-of (x || t || l) s)
 
 -- what is laid out by the runs of a mended extended word has no dropped bit
-kept-extended : (r : DataPathStateTLV) (v : ℕ) → laid extendedKept (laid (extendedRuns r) v) ≡ laid (extendedRuns r) v
-kept-extended r v = announced-same extendedKept (laid (extendedRuns r) v) refl (laid-spare (extendedRuns r) v)
+kept-extended : (r : DataPathStateTLV) (v : ℕ) → wordBy extendedKept (wordBy (extendedRuns r) v) ≡ wordBy (extendedRuns r) v
+kept-extended r v = announced-same extendedKept (wordBy (extendedRuns r) v) refl (word-spare (extendedRuns r) v)
 
-kept-options : (b : Bool) (w : ℕ) → laid optionsKept (cond b (laid optionsKept w) 0) ≡ cond b (laid optionsKept w) 0
-kept-options true w = laid-twice optionsKept w
+kept-options : (b : Bool) (w : ℕ) → wordBy optionsKept (cond b (wordBy optionsKept w) 0) ≡ cond b (wordBy optionsKept w) 0
+kept-options true w = word-twice optionsKept w
 kept-options false w = refl
 
 mended-words : (r : DataPathStateTLV) → wordsKept (mended r) ≡ true
 unfolding mended
 mended-words r =
-    let o = cond (r .«unicast_options» .present) (laid optionsKept (r .«unicast_options» .options .0)) 0 in
-    let w = laid (extendedRuns r) (extendedWord r) in
-    eq-eqb (laid extendedKept w) w (kept-extended r (extendedWord r))
-    and eq-eqb (laid optionsKept o) o (kept-options (r .«unicast_options» .present) (r .«unicast_options» .options .0))
+    let o = cond (r .«unicast_options» .present) (wordBy optionsKept (r .«unicast_options» .options .0)) 0 in
+    let w = wordBy (extendedRuns r) (extendedWord r) in
+    eq-eqb (wordBy extendedKept w) w (kept-extended r (extendedWord r))
+    and eq-eqb (wordBy optionsKept o) o (kept-options (r .«unicast_options» .present) (r .«unicast_options» .options .0))
 
 -- a word is there after mending, or zero
 zero-options : (p e : Bool) (w : ℕ) → ((p || e) || eqb (cond p w 0) 0) ≡ true
 zero-options true e w = refl
 zero-options false e w = or-true e
 
-zero-extended : (r : DataPathStateTLV) (b : Bool) → hasExtended r ≡ b → (b || eqb (laid (extendedRuns r) (extendedWord r)) 0) ≡ true
+zero-extended : (r : DataPathStateTLV) (b : Bool) → hasExtended r ≡ b → (b || eqb (wordBy (extendedRuns r) (extendedWord r)) 0) ≡ true
 zero-extended r true e = refl
 zero-extended r false e =
     let x = r .«extended_flags» .present in
@@ -216,17 +216,17 @@ zero-extended r false e =
 mended-absent : (r : DataPathStateTLV) → absentZero (mended r) ≡ true
 unfolding mended
 mended-absent r =
-    O.mend-sound O.country (r .«country_code»)
-    and O.mend-sound O.channel (r .«channel_map»)
-    and O.mend-sound O.infra (r .«infra_bssid_channel»)
-    and O.mend-sound O.address (r .«infra_address»)
-    and O.mend-sound O.address (r .«awdl_address»)
-    and zero-options (r .«unicast_options» .present) (r .«unicast_options_ext» .present) (laid optionsKept (r .«unicast_options» .options .0))
-    and O.mend-sound O.word (r .«unicast_options_ext»)
+    O.mend-sound O.country-kind (r .«country_code»)
+    and O.mend-sound O.channel-kind (r .«channel_map»)
+    and O.mend-sound O.infra-kind (r .«infra_bssid_channel»)
+    and O.mend-sound O.address-kind (r .«infra_address»)
+    and O.mend-sound O.address-kind (r .«awdl_address»)
+    and zero-options (r .«unicast_options» .present) (r .«unicast_options_ext» .present) (wordBy optionsKept (r .«unicast_options» .options .0))
+    and O.mend-sound O.word-kind (r .«unicast_options_ext»)
     and zero-extended r (hasExtended r) refl
-    and O.mend-sound O.word (r .rlfc)
-    and O.mend-sound O.triggerId (r .«log_trigger_id»)
-    and O.mend-sound O.stats (r .stats)
+    and O.mend-sound O.word-kind (r .rlfc)
+    and O.mend-sound O.trigger-id-kind (r .«log_trigger_id»)
+    and O.mend-sound O.stats-kind (r .stats)
 
 pub mended-elsewhere : (r : DataPathStateTLV) → Elsewhere (mended r)
 mended-elsewhere r =
@@ -241,7 +241,7 @@ mended-elsewhere r =
 mended-channel : (r : DataPathStateTLV) → ChannelRight r → channelRight (mended r .«channel_map» .channel) ≡ true
 unfolding mended
 mended-channel r h =
-    O.passes (λ (c : OptionalChannel). channelRight (c .channel)) (r .«channel_map» .present) (r .«channel_map») (O.channel .none) h refl
+    O.passes (λ (c : OptionalChannel). channelRight (c .channel)) (r .«channel_map» .present) (r .«channel_map») (O.channel-kind .none) h refl
 
 pub mended-consistent : (r : DataPathStateTLV) → ChannelRight r → consistent (mended r) ≡ true
 unfolding consistent
@@ -250,7 +250,7 @@ mended-consistent r h =
 
 pub mended-range : (r : DataPathStateTLV) → mended r .flags .0 < 2 ^ 16
 unfolding mended
-mended-range r = omega (arith, laid-spare (flagsRuns r) (r .flags .0))
+mended-range r = omega (arith, word-spare (flagsRuns r) (r .flags .0))
 
 -- whatever its channel is
 pub mended-twice : (r : DataPathStateTLV) → mended (mended r) ≡ mended r
@@ -274,15 +274,15 @@ pub mended-size : (r : DataPathStateTLV)
 unfolding sum mended
 mended-size r =
     rw (
-      O.mend-there O.country (r .«country_code»),
-      O.mend-there O.channel (r .«channel_map»),
-      O.mend-there O.infra (r .«infra_bssid_channel»),
-      O.mend-there O.address (r .«infra_address»),
-      O.mend-there O.address (r .«awdl_address»),
-      O.mend-there O.word (r .«unicast_options_ext»),
-      O.mend-there O.triggerId (r .«log_trigger_id»),
-      O.mend-there O.word (r .rlfc),
-      O.mend-there O.stats (r .stats),
+      O.mend-there O.country-kind (r .«country_code»),
+      O.mend-there O.channel-kind (r .«channel_map»),
+      O.mend-there O.infra-kind (r .«infra_bssid_channel»),
+      O.mend-there O.address-kind (r .«infra_address»),
+      O.mend-there O.address-kind (r .«awdl_address»),
+      O.mend-there O.word-kind (r .«unicast_options_ext»),
+      O.mend-there O.trigger-id-kind (r .«log_trigger_id»),
+      O.mend-there O.word-kind (r .rlfc),
+      O.mend-there O.stats-kind (r .stats),
     )
 
 -- nothing is there but the second word

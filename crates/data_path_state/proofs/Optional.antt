@@ -64,8 +64,8 @@ module _ {A : Type 0} (k : Kind A) where
   pub mend-same : (x : A) → sound x ≡ true → mend x ≡ x
   mend-same x s = same-case (k .there x) x refl s
 
-abbrev pub country : Kind CountryCode
-country =
+abbrev pub country-kind : Kind CountryCode
+country-kind =
     record {
       there = λ c. c .present;
       zero = λ c. eqb (c .first) 0 && eqb (c .second) 0;
@@ -80,8 +80,8 @@ pub zero-channel : (c : DataPathChannel) → isZeroChannel c ≡ true → c ≡ 
 zero-channel (DataPathChannel.SingleChannel n) z = ap DataPathChannel.SingleChannel (eqb-true n 0 z)
 zero-channel (DataPathChannel.ChannelMap map) z = absurd (false≢true z)
 
-abbrev pub channel : Kind OptionalChannel
-channel =
+abbrev pub channel-kind : Kind OptionalChannel
+channel-kind =
     record {
       there = λ c. c .present;
       zero = λ c. isZeroChannel (c .channel);
@@ -91,13 +91,13 @@ channel =
       only-none = λ c e z. λ i. record { present = e i; channel = zero-channel (c .channel) z i };
     }
 
-pub zero-address : (a : MACAddress) → isZeroAddress a ≡ true → a ≡ zeroAddress
-zero-address a z =
+pub only-zero-address : (a : MACAddress) → isZeroAddress a ≡ true → a ≡ zeroAddress
+only-zero-address a z =
     let n = each-zero (addressBytes a) z in
     λ i. record { 0 = n 0 i; 1 = n 1 i; 2 = n 2 i; 3 = n 3 i; 4 = n 4 i; 5 = n 5 i }
 
-abbrev pub infra : Kind InfraBssidChannel
-infra =
+abbrev pub infra-kind : Kind InfraBssidChannel
+infra-kind =
     record {
       there = λ b. b .present;
       zero = λ b. isZeroAddress (b .bssid) && eqb (b .channel) 0;
@@ -105,22 +105,22 @@ infra =
       none-there = refl;
       none-zero = refl;
       only-none = λ b e z. let t = and-eq-true-iff (isZeroAddress (b .bssid)) (eqb (b .channel) 0) .0 z in
-          λ i. record { present = e i; bssid = zero-address (b .bssid) (t .0) i; channel = eqb-true (b .channel) 0 (t .1) i };
+          λ i. record { present = e i; bssid = only-zero-address (b .bssid) (t .0) i; channel = eqb-true (b .channel) 0 (t .1) i };
     }
 
-abbrev pub address : Kind OptionalAddress
-address =
+abbrev pub address-kind : Kind OptionalAddress
+address-kind =
     record {
       there = λ a. a .present;
       zero = λ a. isZeroAddress (a .address);
       none = noAddress;
       none-there = refl;
       none-zero = refl;
-      only-none = λ a e z. λ i. record { present = e i; address = zero-address (a .address) z i };
+      only-none = λ a e z. λ i. record { present = e i; address = only-zero-address (a .address) z i };
     }
 
-abbrev pub word : Kind OptionalWord
-word =
+abbrev pub word-kind : Kind OptionalWord
+word-kind =
     record {
       there = λ w. w .present;
       zero = λ w. eqb (w .word) 0;
@@ -130,8 +130,8 @@ word =
       only-none = λ w e z. λ i. record { present = e i; word = eqb-true (w .word) 0 z i };
     }
 
-abbrev pub triggerId : Kind OptionalTriggerId
-triggerId =
+abbrev pub trigger-id-kind : Kind OptionalTriggerId
+trigger-id-kind =
     record {
       there = λ t. t .present;
       zero = λ t. eqb (t .id) 0;
@@ -146,8 +146,8 @@ zero-stats s z =
     let n = each-zero (s .«msec_since_activation» ∷ s .«aw_seq_counter» ∷ s .«pay_update_coutner» ∷ []) z in
     λ i. record { «msec_since_activation» = n 0 i; «aw_seq_counter» = n 1 i; «pay_update_coutner» = n 2 i }
 
-abbrev pub stats : Kind OptionalStats
-stats =
+abbrev pub stats-kind : Kind OptionalStats
+stats-kind =
     record {
       there = λ s. s .present;
       zero = λ s. isZeroStats (s .stats);

@@ -6,7 +6,7 @@ use mathlib.Core.List.{[], _∷_}
 use lib.Dec.{eqb}
 use borrow.Author.Tests.{eqb-true}
 use Rattle.wire.specs.Numbers.{bit}
-use Rattle.wire.proofs.Tests.{same, other, each}
+use Rattle.wire.proofs.Tests.{beq-same, other, each}
 use Rattle.data_path_state.proofs.Optional as O
 use Rattle.data_path_state.specs.declared.data_path_state_tlv.DataPathStateTLV.{DataPathStateTLV}
 use Rattle.data_path_fields.specs.Fields.{noCountry, noChannel, noInfra, noAddress, noOptions, noWord, noExtendedFlags, noTriggerId, noStats}
@@ -28,7 +28,7 @@ right r e =
     record { flags = f .0; extended = f .1 .0; only = f .1 .1 .0; channel = f .1 .1 .1 .0; words = f .1 .1 .1 .1 .0; absent = f .1 .1 .1 .1 .1 .0 }
 
 -- each presence bit is what it announces
-pub record Announced (r : DataPathStateTLV) : Type 0 where
+pub record PresenceAnnounced (r : DataPathStateTLV) : Type 0 where
   pub infra : bit 0 (r .flags .0) ≡ r .«infra_bssid_channel» .present
   pub address : bit 1 (r .flags .0) ≡ r .«infra_address» .present
   pub awdl : bit 2 (r .flags .0) ≡ r .«awdl_address» .present
@@ -40,8 +40,8 @@ pub record Announced (r : DataPathStateTLV) : Type 0 where
   pub rlfc : bit 2 (r .«extended_flags» .flags .0) ≡ r .rlfc .present
   pub stats : bit 5 (r .«extended_flags» .flags .0) ≡ r .stats .present
 
-pub announced : {r : DataPathStateTLV} → Right r → Announced r
-announced {r} w =
+pub presence-announced : {r : DataPathStateTLV} → Right r → PresenceAnnounced r
+presence-announced {r} w =
     let v = r .flags .0 in
     let x = r .«extended_flags» .flags .0 in
     let f = each (Bool·beq (bit 0 v) (r .«infra_bssid_channel» .present))
@@ -55,16 +55,16 @@ announced {r} w =
     let e = each (Bool·beq (bit 0 x) (r .«log_trigger_id» .present))
     (Bool·beq (bit 2 x) (r .rlfc .present) ∷ Bool·beq (bit 5 x) (r .stats .present) ∷ []) (w .extended) in
     record {
-      infra = same _ _ (f .0);
-      address = same _ _ (f .1 .0);
-      awdl = same _ _ (f .1 .1 .0);
-      country = same _ _ (f .1 .1 .1 .0);
-      channel = same _ _ (f .1 .1 .1 .1 .0);
-      unicast = same _ _ (f .1 .1 .1 .1 .1 .0);
-      extended = same _ _ (f .1 .1 .1 .1 .1 .1 .0);
-      trigger = same _ _ (e .0);
-      rlfc = same _ _ (e .1 .0);
-      stats = same _ _ (e .1 .1 .0);
+      infra = beq-same _ _ (f .0);
+      address = beq-same _ _ (f .1 .0);
+      awdl = beq-same _ _ (f .1 .1 .0);
+      country = beq-same _ _ (f .1 .1 .1 .0);
+      channel = beq-same _ _ (f .1 .1 .1 .1 .0);
+      unicast = beq-same _ _ (f .1 .1 .1 .1 .1 .0);
+      extended = beq-same _ _ (f .1 .1 .1 .1 .1 .1 .0);
+      trigger = beq-same _ _ (e .0);
+      rlfc = beq-same _ _ (e .1 .0);
+      stats = beq-same _ _ (e .1 .1 .0);
     }
 
 -- a field that is not there is its absent value
@@ -96,15 +96,15 @@ gone {r} w =
     ∷ (r .stats .present || isZeroStats (r .stats .stats))
     ∷ []) (w .absent) in
     record {
-      country = O.gone O.country (r .«country_code») (z .0);
-      channel = O.gone O.channel (r .«channel_map») (z .1 .0);
-      infra = O.gone O.infra (r .«infra_bssid_channel») (z .1 .1 .0);
-      address = O.gone O.address (r .«infra_address») (z .1 .1 .1 .0);
-      awdl = O.gone O.address (r .«awdl_address») (z .1 .1 .1 .1 .0);
+      country = O.gone O.country-kind (r .«country_code») (z .0);
+      channel = O.gone O.channel-kind (r .«channel_map») (z .1 .0);
+      infra = O.gone O.infra-kind (r .«infra_bssid_channel») (z .1 .1 .0);
+      address = O.gone O.address-kind (r .«infra_address») (z .1 .1 .1 .0);
+      awdl = O.gone O.address-kind (r .«awdl_address») (z .1 .1 .1 .1 .0);
       options = λ p. let n = eqb-true _ 0 (other _ _ (z .1 .1 .1 .1 .1 .0) p) in λ i. record { present = p i; options = record { 0 = n i } };
-      ext = O.gone O.word (r .«unicast_options_ext») (z .1 .1 .1 .1 .1 .1 .0);
+      ext = O.gone O.word-kind (r .«unicast_options_ext») (z .1 .1 .1 .1 .1 .1 .0);
       extended = λ p. let n = eqb-true _ 0 (other _ _ (z .1 .1 .1 .1 .1 .1 .1 .0) p) in λ i. record { present = p i; flags = record { 0 = n i } };
-      rlfc = O.gone O.word (r .rlfc) (z .1 .1 .1 .1 .1 .1 .1 .1 .0);
-      trigger = O.gone O.triggerId (r .«log_trigger_id») (z .1 .1 .1 .1 .1 .1 .1 .1 .1 .0);
-      stats = O.gone O.stats (r .stats) (z .1 .1 .1 .1 .1 .1 .1 .1 .1 .1 .0);
+      rlfc = O.gone O.word-kind (r .rlfc) (z .1 .1 .1 .1 .1 .1 .1 .1 .0);
+      trigger = O.gone O.trigger-id-kind (r .«log_trigger_id») (z .1 .1 .1 .1 .1 .1 .1 .1 .1 .0);
+      stats = O.gone O.stats-kind (r .stats) (z .1 .1 .1 .1 .1 .1 .1 .1 .1 .1 .0);
     }

@@ -14,7 +14,7 @@ use Rattle.wire.specs.Reading.{read, when}
 use Rattle.wire.specs.Answer.{answer}
 use Rattle.wire.specs.Numbers.{littleBytes, bit, bits}
 use Rattle.wire.specs.Addresses.{addressBytes}
-use Rattle.wire.specs.Words.{laid}
+use Rattle.wire.specs.Words.{wordBy}
 use Rattle.wire.specs.Writing.{within, lengthOf, afterwards}
 use Rattle.wire.proofs.Tests.{both, each, implied}
 use Rattle.wire.proofs.ReadsBack.{Back, bind-back, made-back, field-back, when-back, number-back, address-back}
@@ -36,10 +36,10 @@ use Rattle.data_path_fields.specs.Fields.{noWord, oneWord, optionsAnd, optionsO
 use Rattle.data_path_state.specs.DataPath.{dataPath}
 use Rattle.data_path_state.specs.Consistent.{channelRight, consistent}
 use Rattle.data_path_state.specs.Bytes.{countryBytes, channelBytes, infraBytes, oneAddressBytes, wordBytes, triggerIdBytes, threeWords, statsBytes}
-use Rattle.data_path_state.specs.Bytes.{headBytes, addressesBytes, unicastBytes, extendedBytes, laidDown, bytesOf, sizeOf}
-use Rattle.data_path_state.proofs.Right.{Right, right, announced, gone}
+use Rattle.data_path_state.specs.Bytes.{headBytes, addressesBytes, unicastBytes, extendedBytes, recordBytes, bytesOf, sizeOf}
+use Rattle.data_path_state.proofs.Right.{Right, right, presence-announced, gone}
 use Rattle.data_path_state.specs.Ranges.{Ranges}
-use Rattle.data_path_state.proofs.Sizes.{length-laid}
+use Rattle.data_path_state.proofs.Sizes.{length-record}
 
 country-back : (c : CountryCode) → c .present ≡ true → Back country (c .first ∷ c .second ∷ 0 ∷ []) c
 country-back c p =
@@ -71,7 +71,7 @@ channel-back c e h p =
 head-back : (r : DataPathStateTLV) → Ranges r → Right r
     → Back head (headBytes r) (record { flags = r .flags .0; country = r .«country_code»; channel = r .«channel_map» })
 head-back r h w =
-    let a = announced w in
+    let a = presence-announced w in
     let g = gone w in
     let country′ : Back (when (bit 8 (r .flags .0)) noCountry country) (countryBytes (r .«country_code»)) (r .«country_code») =
     rw (a .country) (when-back (r .«country_code» .present) noCountry (country-back (r .«country_code»)) (g .country)) in
@@ -95,7 +95,7 @@ one-address-back a p =
 addresses-back : (r : DataPathStateTLV) → Ranges r → Right r → Back (addresses (r .flags .0)) (addressesBytes r)
     (record { bssid = r .«infra_bssid_channel»; infra = r .«infra_address»; awdl = r .«awdl_address» })
 addresses-back r h w =
-    let a = announced w in
+    let a = presence-announced w in
     let g = gone w in
     let bssid : Back (when (bit 0 (r .flags .0)) noInfra infra) (infraBytes (r .«infra_bssid_channel»)) (r .«infra_bssid_channel») =
     rw (a .infra) (when-back (r .«infra_bssid_channel» .present) noInfra (infra-back (r .«infra_bssid_channel») (h .infra)) (g .infra)) in
@@ -112,7 +112,7 @@ one-word-back x h p =
     (made-back _ (number-back 4 (x .word) h))
 
 options-back : (o : OptionalOptions) (x : OptionalWord) → o .options .0 < 256 ^ 4 → x .word < 256 ^ 4 → o .present ≡ true
-    → laid optionsKept (o .options .0) ≡ o .options .0 → (x .present ≡ false → x ≡ noWord)
+    → wordBy optionsKept (o .options .0) ≡ o .options .0 → (x .present ≡ false → x ≡ noWord)
     → Back (optionsAnd (x .present)) (littleBytes 4 (o .options .0) ++ wordBytes x) (record { options = o; ext = x })
 options-back o x ho hx p kept none =
     subst (λ (y : OptionalOptions). Back (optionsAnd (x .present)) (littleBytes 4 (o .options .0) ++ wordBytes x) (record { options = y; ext = x }))
@@ -148,15 +148,15 @@ only {r} w =
     }
 
 record Kept (r : DataPathStateTLV) : Type 0 where
-  extended : laid extendedKept (r .«extended_flags» .flags .0) ≡ r .«extended_flags» .flags .0
-  options : laid optionsKept (r .«unicast_options» .options .0) ≡ r .«unicast_options» .options .0
+  extended : wordBy extendedKept (r .«extended_flags» .flags .0) ≡ r .«extended_flags» .flags .0
+  options : wordBy optionsKept (r .«unicast_options» .options .0) ≡ r .«unicast_options» .options .0
 
 kept : {r : DataPathStateTLV} → Right r → Kept r
 kept {r} w =
     let x = r .«extended_flags» .flags .0 in
     let o = r .«unicast_options» .options .0 in
-    let z = both (eqb (laid extendedKept x) x) (eqb (laid optionsKept o) o) (w .words) in
-    record { extended = eqb-true (laid extendedKept x) x (z .0); options = eqb-true (laid optionsKept o) o (z .1) }
+    let z = both (eqb (wordBy extendedKept x) x) (eqb (wordBy optionsKept o) o) (w .words) in
+    record { extended = eqb-true (wordBy extendedKept x) x (z .0); options = eqb-true (wordBy optionsKept o) o (z .1) }
 
 unicast-back : (r : DataPathStateTLV) → Ranges r → Right r
     → Back (when (bit 12 (r .flags .0)) noUnicast unicast) (unicastBytes r)
@@ -172,7 +172,7 @@ unicast-back r h w =
     (rw (length-tells (x .present)) (options-back o x (h .options) (h .ext) p (kept w .options) (g .ext)))) in
     let gone′ : o .present ≡ false → _≡_ {A = Unicast} (record { options = o; ext = x }) noUnicast =
     λ p. λ i. record { options = g .options p i; ext = g .ext (only w .ext p) i } in
-    rw (announced w .unicast) (when-back (o .present) noUnicast there gone′)
+    rw (presence-announced w .unicast) (when-back (o .present) noUnicast there gone′)
 
 trigger-back : (t : OptionalTriggerId) → t .id < 256 ^ 2 → t .present ≡ true → Back triggerId (littleBytes 2 (t .id)) t
 trigger-back t h p =
@@ -191,7 +191,7 @@ extended-of-back : (r : DataPathStateTLV) → Ranges r → Right r → r .«exte
     → Back (extendedOf (r .«extended_flags» .flags .0)) (triggerIdBytes (r .«log_trigger_id») ++ (wordBytes (r .rlfc) ++ statsBytes (r .stats)))
     (record { flags = r .«extended_flags»; trigger = r .«log_trigger_id»; rlfc = r .rlfc; stats = r .stats })
 extended-of-back r h w p =
-    let a = announced w in
+    let a = presence-announced w in
     let g = gone w in
     let x = r .«extended_flags» .flags .0 in
     let trigger : Back (when (bit 0 x) noTriggerId triggerId) (triggerIdBytes (r .«log_trigger_id»)) (r .«log_trigger_id») =
@@ -226,10 +226,10 @@ extended-back r h w =
       rlfc = g .rlfc (only w .rlfc p) i;
       stats = g .stats (only w .stats p) i;
     } in
-    rw (announced w .extended) (when-back (r .«extended_flags» .present) noExtended there gone′)
+    rw (presence-announced w .extended) (when-back (r .«extended_flags» .present) noExtended there gone′)
 
-pub record-back : (r : DataPathStateTLV) → Ranges r → consistent r ≡ true → Back dataPath (laidDown r) r
-unfolding laidDown
+pub record-back : (r : DataPathStateTLV) → Ranges r → consistent r ≡ true → Back dataPath (recordBytes r) r
+unfolding recordBytes
 record-back r h e =
     let w = right r e in
     rw (
@@ -240,15 +240,15 @@ record-back r h e =
     (made-back _ (bind-back _ (addresses-back r h w) (bind-back _ (unicast-back r h w) (made-back _ (extended-back r h w))))))
 
 -- a consistent record: as many bytes as its size says, written into enough room and read back as itself, with what stood behind still there
-pub round-trip : (r : DataPathStateTLV) (s : List ℕ) → Ranges r → consistent r ≡ true → length (laidDown r) ≤ length s →
+pub round-trip : (r : DataPathStateTLV) (s : List ℕ) → Ranges r → consistent r ≡ true → length (recordBytes r) ≤ length s →
     let after : List ℕ = afterwards s (bytesOf r) (within (length s) (lengthOf (bytesOf r))) in
-    (sizeOf r ≡ answer (length (laidDown r)))
-    × (dataPath after 0 ≡ read r (length (laidDown r)))
-    × (drop (length (laidDown r)) after ≡ drop (length (laidDown r)) s)
+    (sizeOf r ≡ answer (length (recordBytes r)))
+    × (dataPath after 0 ≡ read r (length (recordBytes r)))
+    × (drop (length (recordBytes r)) after ≡ drop (length (recordBytes r)) s)
 round-trip r s h e fits =
-    let room : leb (length (laidDown r)) (length s) ≡ true = le-leb (length (laidDown r)) (length s) fits in
-    let rest = drop (length (laidDown r)) s in (
-      rw (e, length-laid r e),
-      rw (e, room) (record-back r h e .back [] rest ∙ ap (read r) (zero-add (length (laidDown r)))),
-      rw (e, room) (drop-append-seam (laidDown r) rest),
+    let room : leb (length (recordBytes r)) (length s) ≡ true = le-leb (length (recordBytes r)) (length s) fits in
+    let rest = drop (length (recordBytes r)) s in (
+      rw (e, length-record r e),
+      rw (e, room) (record-back r h e .back [] rest ∙ ap (read r) (zero-add (length (recordBytes r)))),
+      rw (e, room) (drop-append-seam (recordBytes r) rest),
     )

@@ -13,7 +13,7 @@ use Rattle.wire.proofs.Tests.{never-true, both, implied}
 use Rattle.data_path_state.specs.declared.data_path_state_tlv.DataPathStateTLV.{DataPathStateTLV}
 use Rattle.data_path_state.specs.Consistent.{consistent}
 use Rattle.data_path_state.specs.Bytes.{threeWords}
-use Rattle.data_path_state.specs.Bytes.{headBytes, addressesBytes, unicastBytes, extendedBytes, laidDown, bytesOf, counted, sum, sizeOf}
+use Rattle.data_path_state.specs.Bytes.{headBytes, addressesBytes, unicastBytes, extendedBytes, recordBytes, bytesOf, counted, sum, sizeOf}
 use Rattle.data_path_state.proofs.Right.{right}
 
 length-cond : (b : Bool) (xs : List ℕ) → length (cond b xs []) ≡ counted b (length xs)
@@ -44,9 +44,9 @@ announced true t f s a b c d pa pb pc pd et ef es =
 announced false t f s a b c d pa pb pc pd et ef es =
     rw (implied t false et refl, implied f false ef refl, implied s false es refl)
 
-pub length-laid : (r : DataPathStateTLV) → consistent r ≡ true → length (laidDown r) ≡ sum r
-unfolding laidDown sum
-length-laid r e =
+pub length-record : (r : DataPathStateTLV) → consistent r ≡ true → length (recordBytes r) ≡ sum r
+unfolding recordBytes sum
+length-record r e =
     let x = r .«unicast_options_ext» .present in
     let o = r .«unicast_options» .present in
     let w = r .«extended_flags» .present in
@@ -80,22 +80,22 @@ pub size-length : (r : DataPathStateTLV) → lengthOf (bytesOf r) ≡ sizeOf r
 size-length r = go (consistent r) refl
   where
     go : (b : Bool) → consistent r ≡ b → lengthOf (bytesOf r) ≡ sizeOf r
-    go true e = rw e (ap answer (length-laid r e))
+    go true e = rw e (ap answer (length-record r e))
     go false e = rw e
 
 -- a size that can be had: the record is consistent, and the size is the number of its bytes
-pub record Sized (r : DataPathStateTLV) (n : ℕ) : Type 0 where
+pub record RecordSized (r : DataPathStateTLV) (n : ℕ) : Type 0 where
   pub right : consistent r ≡ true
-  pub size : n ≡ length (laidDown r)
+  pub size : n ≡ length (recordBytes r)
 
-pub sized : (r : DataPathStateTLV) {n : ℕ} → sizeOf r ≡ answer n → Sized r n
-sized r {n} e = go (consistent r) refl
+pub record-sized : (r : DataPathStateTLV) {n : ℕ} → sizeOf r ≡ answer n → RecordSized r n
+record-sized r {n} e = go (consistent r) refl
   where
-    go : (b : Bool) → consistent r ≡ b → Sized r n
+    go : (b : Bool) → consistent r ≡ b → RecordSized r n
     go true h =
         let e′ = rw h at e in
         let same : sum r ≡ n = cc in
-        record { right = h; size = sym same ∙ sym (length-laid r h) }
+        record { right = h; size = sym same ∙ sym (length-record r h) }
     go false h = absurd (let e′ = rw h at e in let z : _≡_ {A = ℕ} 0 1 = cc in omega arith)
 
 -- at least the flags, and at most every field

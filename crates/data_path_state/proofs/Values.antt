@@ -9,7 +9,7 @@ use lib.ListN.{take}
 use Rattle.wire.specs.declared.refusal.Refusal.the-variants.{Short, UnicastLength}
 use Rattle.wire.specs.Reading.{read, refused}
 use Rattle.wire.specs.Numbers.{bit}
-use Rattle.wire.specs.Words.{laid}
+use Rattle.wire.specs.Words.{wordBy}
 use Rattle.wire.proofs.Lawful.{Lawful, bind-lawful, give-lawful, refuse-lawful, when-lawful, cond-lawful, made-lawful, field-lawful, number-lawful, address-lawful, grown, cut-short}
 use Rattle.data_path_state.specs.declared.data_path_state_tlv.DataPathStateTLV.{DataPathStateTLV}
 use Rattle.data_path_fields.specs.Words.{extendedKept}
@@ -55,9 +55,9 @@ stats-lawful =
 extended-lawful : Lawful extended
 extended-lawful =
     bind-lawful (number-lawful 2) λ word.
-    bind-lawful (when-lawful (bit 0 (laid extendedKept word)) noTriggerId (made-lawful _ (number-lawful 2))) λ trigger.
-    bind-lawful (when-lawful (bit 2 (laid extendedKept word)) noWord one-word-lawful) λ rlfc.
-    bind-lawful (when-lawful (bit 5 (laid extendedKept word)) noStats stats-lawful) λ stats. give-lawful _
+    bind-lawful (when-lawful (bit 0 (wordBy extendedKept word)) noTriggerId (made-lawful _ (number-lawful 2))) λ trigger.
+    bind-lawful (when-lawful (bit 2 (wordBy extendedKept word)) noWord one-word-lawful) λ rlfc.
+    bind-lawful (when-lawful (bit 5 (wordBy extendedKept word)) noStats stats-lawful) λ stats. give-lawful _
 
 body-lawful : (flags : ℕ) → Lawful (body flags)
 body-lawful flags =

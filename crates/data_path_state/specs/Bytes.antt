@@ -69,13 +69,13 @@ extendedBytes r =
     ++ statsBytes (r .stats))
     []
 
-unfoldable pub laidDown : DataPathStateTLV → List ℕ
-laidDown r = headBytes r ++ addressesBytes r ++ unicastBytes r ++ extendedBytes r
+unfoldable pub recordBytes : DataPathStateTLV → List ℕ
+recordBytes r = headBytes r ++ addressesBytes r ++ unicastBytes r ++ extendedBytes r
 
 abbrev pub bytesOf : DataPathStateTLV → Answer (List ℕ)
 bytesOf r = do
   require (consistent r) Inconsistent
-  answer (laidDown r)
+  answer (recordBytes r)
 
 -- the bytes of a field count where it is there
 abbrev pub counted : Bool → ℕ → ℕ

@@ -5,7 +5,7 @@ use mathlib.Core.Bool.{Bool, true, false, not, _&&_, _||_, Bool·beq}
 use lib.Dec.{eqb, leb}
 use Rattle.wire.specs.declared.read.MACAddress.{MACAddress}
 use Rattle.wire.specs.Numbers.{bit}
-use Rattle.wire.specs.Words.{laid}
+use Rattle.wire.specs.Words.{wordBy}
 use Rattle.data_path_fields.specs.declared.misc.DataPathChannel.{DataPathChannel}
 use Rattle.data_path_fields.specs.declared.misc.DataPathStats.{DataPathStats}
 use Rattle.data_path_state.specs.declared.data_path_state_tlv.DataPathStateTLV.{DataPathStateTLV}
@@ -47,8 +47,8 @@ channelRight (DataPathChannel.ChannelMap map) = eqb (map .0 % 2) 1 && leb (map .
 -- no dropped bit is set
 abbrev pub wordsKept : DataPathStateTLV → Bool
 wordsKept r =
-    eqb (laid extendedKept (r .«extended_flags» .flags .0)) (r .«extended_flags» .flags .0)
-    && eqb (laid optionsKept (r .«unicast_options» .options .0)) (r .«unicast_options» .options .0)
+    eqb (wordBy extendedKept (r .«extended_flags» .flags .0)) (r .«extended_flags» .flags .0)
+    && eqb (wordBy optionsKept (r .«unicast_options» .options .0)) (r .«unicast_options» .options .0)
 
 abbrev pub isZeroAddress : MACAddress → Bool
 isZeroAddress a = eqb (a .0) 0 && eqb (a .1) 0 && eqb (a .2) 0 && eqb (a .3) 0 && eqb (a .4) 0 && eqb (a .5) 0

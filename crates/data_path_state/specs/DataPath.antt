@@ -5,8 +5,8 @@ use Rattle.data_path_fields.specs.declared.read.Body.{Body}
 use Rattle.data_path_fields.specs.Fields.{head, body}
 use Rattle.data_path_state.specs.declared.data_path_state_tlv.DataPathStateTLV.{DataPathStateTLV}
 
-abbrev pub whole : Head → Body → DataPathStateTLV
-whole h b =
+abbrev pub recordOf : Head → Body → DataPathStateTLV
+recordOf h b =
     record {
       flags = record { 0 = h .flags };
       «country_code» = h .country;
@@ -26,4 +26,4 @@ abbrev pub dataPath : Reader DataPathStateTLV
 dataPath = do
   h ← head
   b ← body (h .flags)
-  give (whole h b)
+  give (recordOf h b)

@@ -2,7 +2,7 @@
 -- It leaves a channel that is there as it is.
 use mathlib.Core.Bool.{Bool, cond, _||_}
 use mathlib.Core.List.{List, [], _∷_}
-use Rattle.wire.specs.Words.{Run, keep, clear, put, laid}
+use Rattle.wire.specs.Words.{Run, keep, clear, put, wordBy}
 use Rattle.data_path_fields.specs.declared.fields.DataPathFlags.{DataPathFlags}
 use Rattle.data_path_state.specs.declared.data_path_state_tlv.DataPathStateTLV.{DataPathStateTLV}
 use Rattle.data_path_fields.specs.declared.fields.OptionalOptions.{OptionalOptions}
@@ -18,7 +18,7 @@ abbrev pub mendedOptions : DataPathStateTLV → OptionalOptions
 mendedOptions r =
     record {
       present = hasOptions r;
-      options = record { 0 = cond (r .«unicast_options» .present) (laid optionsKept (r .«unicast_options» .options .0)) 0 };
+      options = record { 0 = cond (r .«unicast_options» .present) (wordBy optionsKept (r .«unicast_options» .options .0)) 0 };
     }
 
 -- the extended word is added where one of its fields is there
@@ -42,7 +42,7 @@ abbrev pub mendedExtended : DataPathStateTLV → OptionalExtendedFlags
 mendedExtended r =
     record {
       present = hasExtended r;
-      flags = record { 0 = laid (extendedRuns r) (cond (r .«extended_flags» .present) (r .«extended_flags» .flags .0) 0) };
+      flags = record { 0 = wordBy (extendedRuns r) (cond (r .«extended_flags» .present) (r .«extended_flags» .flags .0) 0) };
     }
 
 -- bits 0, 1, 2, 8, 9, 12 and 15 announce the fields
@@ -61,7 +61,7 @@ flagsRuns r =
     ∷ []
 
 abbrev pub mendedFlags : DataPathStateTLV → DataPathFlags
-mendedFlags r = record { 0 = laid (flagsRuns r) (r .flags .0) }
+mendedFlags r = record { 0 = wordBy (flagsRuns r) (r .flags .0) }
 
 unfoldable pub mended : DataPathStateTLV → DataPathStateTLV
 mended r =

@@ -9,7 +9,7 @@ use Rattle.wire.specs.declared.refusal.Refusal.the-variants.{UnicastLength}
 use Rattle.wire.specs.Reading.{Reader, field, give, refuse, when, _>>=_}
 use Rattle.wire.specs.Numbers.{number, littleBytes, bit}
 use Rattle.wire.specs.Addresses.{address, addressBytes}
-use Rattle.wire.specs.Words.{laid}
+use Rattle.wire.specs.Words.{wordBy}
 use Rattle.data_path_fields.specs.Words.{extendedKept, optionsKept}
 
 -- the pad byte is 0
@@ -44,13 +44,13 @@ wordAgain width = do
 abbrev pub oneAgain : Reader (List ℕ)
 oneAgain = do
   options ← number 4
-  give (littleBytes 2 4 ++ littleBytes 4 (laid optionsKept options))
+  give (littleBytes 2 4 ++ littleBytes 4 (wordBy optionsKept options))
 
 abbrev pub twoAgain : Reader (List ℕ)
 twoAgain = do
   options ← number 4
   ext ← number 4
-  give (littleBytes 2 8 ++ littleBytes 4 (laid optionsKept options) ++ littleBytes 4 ext)
+  give (littleBytes 2 8 ++ littleBytes 4 (wordBy optionsKept options) ++ littleBytes 4 ext)
 
 abbrev pub unicastAgain : Reader (List ℕ)
 unicastAgain = do
@@ -75,7 +75,7 @@ announcedAgain word = do
 abbrev pub extendedAgain : Reader (List ℕ)
 extendedAgain = do
   word ← number 2
-  announcedAgain (laid extendedKept word)
+  announcedAgain (wordBy extendedKept word)
 
 -- the flags, which announce what follows, and the bytes up to the channel word
 pub record Front : Type 0 where

@@ -125,7 +125,7 @@ impl DataPathStateTLV {
 }
 
 fn whole(head: Head, body: Body) -> DataPathStateTLV
-    ensures { λ r. ⌜ r ≡ D.whole head body ⌝ }
+    ensures { λ r. ⌜ r ≡ D.recordOf head body ⌝ }
 {
     let country_code = head.country;
     let channel_map = head.channel;

@@ -4,7 +4,7 @@ ghost use mathlib.Core.List.{[]};
 ghost use Prim.Native.Nat.{_≤_};
 ghost use Rattle.wire.specs.Numbers.{littleBytes};
 ghost use Rattle.wire.specs.Addresses.{addressBytes};
-ghost use Rattle.wire.specs.Writing.{Put, Runs};
+ghost use Rattle.wire.specs.Writing.{Put, PutIfRoom};
 ghost use Rattle.data_path_state.specs.Bytes as B;
 use crate::data_path_state_tlv::DataPathStateTLV;
 use data_path_fields::OptionalStats;
@@ -65,7 +65,7 @@ fn put_address(buf: &mut [u8], at: usize, present: bool, a: MACAddress) -> usize
 
 // Each of these puts a part of the record, field after field.
 fn put_head(buf: &mut [u8], at: usize, r: DataPathStateTLV) -> usize
-    ensures { λ n. ⌜ Runs (now (buf .entry)) at (B.headBytes r) n (now (buf .exit)) ⌝ }
+    ensures { λ n. ⌜ PutIfRoom (now (buf .entry)) at (B.headBytes r) n (now (buf .exit)) ⌝ }
 {
     let country = wire::put_u16(buf, at, r.flags.0);
     let c = r.country_code;
@@ -76,7 +76,7 @@ fn put_head(buf: &mut [u8], at: usize, r: DataPathStateTLV) -> usize
 }
 
 fn put_addresses(buf: &mut [u8], at: usize, r: DataPathStateTLV) -> usize
-    ensures { λ n. ⌜ Runs (now (buf .entry)) at (B.addressesBytes r) n (now (buf .exit)) ⌝ }
+    ensures { λ n. ⌜ PutIfRoom (now (buf .entry)) at (B.addressesBytes r) n (now (buf .exit)) ⌝ }
 {
     let bssid = r.infra_bssid_channel;
     let channel = put_address(buf, at, bssid.present, bssid.bssid);
@@ -92,7 +92,7 @@ fn unicast_length(second: bool) -> u16
 }
 
 fn put_unicast(buf: &mut [u8], at: usize, r: DataPathStateTLV) -> usize
-    ensures { λ n. ⌜ Runs (now (buf .entry)) at (B.unicastBytes r) n (now (buf .exit)) ⌝ }
+    ensures { λ n. ⌜ PutIfRoom (now (buf .entry)) at (B.unicastBytes r) n (now (buf .exit)) ⌝ }
 {
     if r.unicast_options.present {
         let second = r.unicast_options_ext;
@@ -104,7 +104,7 @@ fn put_unicast(buf: &mut [u8], at: usize, r: DataPathStateTLV) -> usize
 }
 
 fn put_stats(buf: &mut [u8], at: usize, s: OptionalStats) -> usize
-    ensures { λ n. ⌜ Runs (now (buf .entry)) at (B.statsBytes s) n (now (buf .exit)) ⌝ }
+    ensures { λ n. ⌜ PutIfRoom (now (buf .entry)) at (B.statsBytes s) n (now (buf .exit)) ⌝ }
 {
     let aw = put_word(buf, at, s.present, s.stats.msec_since_activation);
     let pay = put_word(buf, aw, s.present, s.stats.aw_seq_counter);
@@ -112,7 +112,7 @@ fn put_stats(buf: &mut [u8], at: usize, s: OptionalStats) -> usize
 }
 
 fn put_extended(buf: &mut [u8], at: usize, r: DataPathStateTLV) -> usize
-    ensures { λ n. ⌜ Runs (now (buf .entry)) at (B.extendedBytes r) n (now (buf .exit)) ⌝ }
+    ensures { λ n. ⌜ PutIfRoom (now (buf .entry)) at (B.extendedBytes r) n (now (buf .exit)) ⌝ }
 {
     if r.extended_flags.present {
         let trigger = wire::put_u16(buf, at, r.extended_flags.flags.0);
@@ -124,7 +124,7 @@ fn put_extended(buf: &mut [u8], at: usize, r: DataPathStateTLV) -> usize
 }
 
 pub(crate) fn put_record(buf: &mut [u8], r: DataPathStateTLV) -> usize
-    ensures { λ n. ⌜ Runs (now (buf .entry)) 0 (B.laidDown r) n (now (buf .exit)) ⌝ }
+    ensures { λ n. ⌜ PutIfRoom (now (buf .entry)) 0 (B.recordBytes r) n (now (buf .exit)) ⌝ }
 {
     let addresses = put_head(buf, 0, r);
     let unicast = put_addresses(buf, addresses, r);

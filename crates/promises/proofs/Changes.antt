@@ -16,80 +16,80 @@ use Rattle.synchronization_parameters.proofs.Whole.{synchronization-lawful}
 use Rattle.tlvs.specs.declared.item.Item.{Item}
 use Rattle.tlvs.specs.Items.{valueOf}
 use Rattle.tlvs.specs.Walk.{walk}
-use Rattle.tlvs.specs.Search.{Accepted as Kept, kept, matched, accepted, allFrom}
+use Rattle.tlvs.specs.Search.{Match as Kept, kept, matched, accepted, allFrom}
 use Rattle.tlvs.specs.Sent.{AllSendable, Sent, sent, sentIn}
-use Rattle.promises.specs.Later.{Unread, Accepted, as-synchronization, as-data-path, longer, Change, insert, grow, behind, Changes, none, more, records}
+use Rattle.promises.specs.Later.{Unread, AcceptedValue, as-synchronization, as-data-path, longer, Change, insert, grow, further, Changes, none, more, records}
 
 -- what a reading gives of a record: one, or none
-abbrev pub given : {A : Type 0} → Reading A → List A
-given (read a size) = a ∷ []
-given (refused why) = []
+abbrev pub readValue : {A : Type 0} → Reading A → List A
+readValue (read a size) = a ∷ []
+readValue (refused why) = []
 
 -- the record of one item, and those of some items in their order
-abbrev pub recordOf : {A : Type 0} → ℕ → Reader A → Sent → List A
-recordOf type reader it = cond (eqb (it .type) type) (given (reader (it .value) 0)) []
+abbrev pub recordIn : {A : Type 0} → ℕ → Reader A → Sent → List A
+recordIn type reader it = cond (eqb (it .type) type) (readValue (reader (it .value) 0)) []
 
-abbrev pub recordsOf : {A : Type 0} → ℕ → Reader A → List Sent → List A
-recordsOf type reader [] = []
-recordsOf type reader (it ∷ rest) = recordOf type reader it ++ recordsOf type reader rest
+abbrev pub recordsIn : {A : Type 0} → ℕ → Reader A → List Sent → List A
+recordsIn type reader [] = []
+recordsIn type reader (it ∷ rest) = recordIn type reader it ++ recordsIn type reader rest
 
 abbrev content : {A : Type 0} → Kept A → A
 content a = a .content
 
 module _ {A : Type 0} (type : ℕ) (reader : Reader A) where
-  one-record : (tail : List ℕ) (it : Item) → map content (matched type reader tail it) ≡ recordOf type reader (sent tail it)
+  one-record : (tail : List ℕ) (it : Item) → map content (matched type reader tail it) ≡ recordIn type reader (sent tail it)
   unfolding matched
   one-record tail it = go (eqb (it .«tlv_type») type) (reader (valueOf tail it) 0)
     where
-      go : (b : Bool) (m : Reading A) → map content (cond b (kept it m) []) ≡ cond b (given m) []
+      go : (b : Bool) (m : Reading A) → map content (cond b (kept it m) []) ≡ cond b (readValue m) []
       go true (read a size) = refl
       go true (refused why) = refl
       go false m = refl
 
-  some-records : (tail : List ℕ) (items : List Item) → map content (accepted type reader tail items) ≡ recordsOf type reader (map (sent tail) items)
+  some-records : (tail : List ℕ) (items : List Item) → map content (accepted type reader tail items) ≡ recordsIn type reader (map (sent tail) items)
   some-records tail [] = refl
   some-records tail (it ∷ rest) =
       map-append content (matched type reader tail it) (accepted type reader tail rest)
       ∙ ap₂ (λ (x y : List A). x ++ y) (one-record tail it) (some-records tail rest)
 
-  pub records-sent : (tail : List ℕ) → records type reader tail ≡ recordsOf type reader (sentIn tail)
+  pub records-sent : (tail : List ℕ) → records type reader tail ≡ recordsIn type reader (sentIn tail)
   unfolding allFrom
   records-sent tail = some-records tail (walk tail .items)
 
   -- an item of another type gives no record, and bytes behind an accepted value do not change its record
-  none-of : (it : Sent) → ¬ (it .type ≡ type) → recordOf type reader it ≡ []
+  none-of : (it : Sent) → ¬ (it .type ≡ type) → recordIn type reader it ≡ []
   none-of it apart = rw (ne-eqb (it .type) type apart)
 
-  pub other-longer : (it : Sent) (bytes : List ℕ) → ¬ (it .type ≡ type) → recordOf type reader (longer it bytes) ≡ recordOf type reader it
+  pub other-longer : (it : Sent) (bytes : List ℕ) → ¬ (it .type ≡ type) → recordIn type reader (longer it bytes) ≡ recordIn type reader it
   other-longer it bytes apart = none-of (longer it bytes) apart ∙ sym (none-of it apart)
 
   pub same-longer : Lawful reader → (it : Sent) (bytes : List ℕ) {a : A} {size : ℕ} → reader (it .value) 0 ≡ read a size
-      → recordOf type reader (longer it bytes) ≡ recordOf type reader it
+      → recordIn type reader (longer it bytes) ≡ recordIn type reader it
   same-longer l it bytes e = rw (grown l (it .value) bytes e, e)
 
   module _ (skips : (it : Sent) → Unread it → ¬ (it .type ≡ type))
-      (stays : (it : Sent) (bytes : List ℕ) → Accepted it → recordOf type reader (longer it bytes) ≡ recordOf type reader it) where
-    change-keeps : {items changed : List Sent} → Change items changed → recordsOf type reader changed ≡ recordsOf type reader items
+      (stays : (it : Sent) (bytes : List ℕ) → AcceptedValue it → recordIn type reader (longer it bytes) ≡ recordIn type reader it) where
+    change-keeps : {items changed : List Sent} → Change items changed → recordsIn type reader changed ≡ recordsIn type reader items
     change-keeps (insert it u) = rw (none-of it (skips it u))
     change-keeps (grow it bytes a h) = rw (stays it bytes a)
-    change-keeps (behind it c) = rw (change-keeps c)
+    change-keeps (further it c) = rw (change-keeps c)
 
-    pub changes-keep : {items changed : List Sent} → Changes items changed → recordsOf type reader changed ≡ recordsOf type reader items
+    pub changes-keep : {items changed : List Sent} → Changes items changed → recordsIn type reader changed ≡ recordsIn type reader items
     changes-keep none = refl
     changes-keep (more c rest) = changes-keep rest ∙ change-keeps c
 
 -- the two types that are read
-pub synchronizations-kept : {items changed : List Sent} → Changes items changed → recordsOf 0x04 synchronization changed ≡ recordsOf 0x04 synchronization items
+pub synchronizations-kept : {items changed : List Sent} → Changes items changed → recordsIn 0x04 synchronization changed ≡ recordsIn 0x04 synchronization items
 synchronizations-kept = changes-keep 0x04 synchronization (λ it u. u .no-synchronization) stays
   where
-    stays : (it : Sent) (bytes : List ℕ) → Accepted it → recordOf 0x04 synchronization (longer it bytes) ≡ recordOf 0x04 synchronization it
+    stays : (it : Sent) (bytes : List ℕ) → AcceptedValue it → recordIn 0x04 synchronization (longer it bytes) ≡ recordIn 0x04 synchronization it
     stays it bytes (as-synchronization t e) = same-longer 0x04 synchronization synchronization-lawful it bytes e
     stays it bytes (as-data-path t e) = other-longer 0x04 synchronization it bytes (omega arith)
 
-pub data-paths-kept : {items changed : List Sent} → Changes items changed → recordsOf 0x0C dataPath changed ≡ recordsOf 0x0C dataPath items
+pub data-paths-kept : {items changed : List Sent} → Changes items changed → recordsIn 0x0C dataPath changed ≡ recordsIn 0x0C dataPath items
 data-paths-kept = changes-keep 0x0C dataPath (λ it u. u .no-data-path) stays
   where
-    stays : (it : Sent) (bytes : List ℕ) → Accepted it → recordOf 0x0C dataPath (longer it bytes) ≡ recordOf 0x0C dataPath it
+    stays : (it : Sent) (bytes : List ℕ) → AcceptedValue it → recordIn 0x0C dataPath (longer it bytes) ≡ recordIn 0x0C dataPath it
     stays it bytes (as-synchronization t e) = other-longer 0x0C dataPath it bytes (omega arith)
     stays it bytes (as-data-path t e) = same-longer 0x0C dataPath data-path-lawful it bytes e
 
@@ -97,7 +97,7 @@ data-paths-kept = changes-keep 0x0C dataPath (λ it u. u .no-data-path) stays
 change-fits : {items changed : List Sent} → Change items changed → AllSendable items → AllSendable changed
 change-fits (insert it u) ok = (record { byte = u .byte; short = u .short }, ok)
 change-fits (grow it bytes a h) ok = (record { byte = ok .0 .byte; short = h }, ok .1)
-change-fits (behind it c) ok = (ok .0, change-fits c (ok .1))
+change-fits (further it c) ok = (ok .0, change-fits c (ok .1))
 
 pub changes-fit : {items changed : List Sent} → Changes items changed → AllSendable items → AllSendable changed
 changes-fit none ok = ok

@@ -33,9 +33,9 @@ use Rattle.action_frame.specs.Frames.{zeroFrame}
 use Rattle.action_frame.specs.Said.{saidFrame, saidDelta}
 use Rattle.action_frame.specs.Outcomes.{outcomeFrame, resultDelta}
 use Rattle.action_frame.proofs.Once.{onceFrame, onceDelta}
-use Rattle.promises.specs.Answers.{refusedOutcome, refusedResult, Once, Answering, Holding}
+use Rattle.promises.specs.Answers.{refusedOutcome, refusedResult, Once, Answering, HeldBeside}
 use Rattle.promises.proofs.EveryCall.{EveryCall, every-call}
-use Rattle.promises.proofs.Refusing.{number-range, numbers-apart, reader, call, refused-buffer, short-buffer}
+use Rattle.promises.proofs.Refusing.{number-range, numbers-apart, reader-answers, call-answers, refused-buffer, short-buffer}
 
 pub record Demand1 : Type 2 where
   -- every public call ends with an answer, whatever it is given
@@ -56,13 +56,13 @@ pub record Demand1 : Type 2 where
   pub encoding : Answering saidEncoding refusal resultEncoding (refusedResult Simple)
   pub corrected : Answering saidCorrected refusal resultCorrected (refusedResult 0)
   pub consistency : Answering saidConsistent refusal resultConsistent (refusedResult false)
-  pub sequence : (at : ℕ) → Holding sequenceRead refused (outcomeSequence at) (refusedOutcome zeroSequence) (λ r. r .sequence) zeroSequence
-  pub fixed : Holding sequenceFixed refusal resultFixed (refusedResult zeroSequence) (λ r. r .sequence) zeroSequence
+  pub sequence : (at : ℕ) → HeldBeside sequenceRead refused (outcomeSequence at) (refusedOutcome zeroSequence) (λ r. r .sequence) zeroSequence
+  pub fixed : HeldBeside sequenceFixed refusal resultFixed (refusedResult zeroSequence) (λ r. r .sequence) zeroSequence
   -- of the two records, the header and the gap between the stamps, and of the two parts in which a data path record is read
   pub head : Answering saidHead refused outcomeHead (refusedOutcome zeroHead)
   pub body : (at : ℕ) → Answering saidBody refused (outcomeBody at) (refusedOutcome zeroBody)
   pub data-path : Answering saidDataPath refused outcomeDataPath (refusedOutcome zeroDataPath)
-  pub synchronization : Holding synchronizationRead refused outcomeSynchronization (refusedOutcome zeroSynchronization) (λ r. r .parameters) zeroSynchronization
+  pub synchronization : HeldBeside synchronizationRead refused outcomeSynchronization (refusedOutcome zeroSynchronization) (λ r. r .parameters) zeroSynchronization
   pub frame : Answering saidFrame refused outcomeFrame (refusedOutcome zeroFrame)
   pub delta : Answering saidDelta refusal resultDelta (refusedResult 0)
   -- the end report and the search refuse nothing
@@ -86,23 +86,23 @@ demand1 =
       calls = every-call;
       numbers = number-range;
       apart = numbers-apart;
-      u8 = λ at. reader saidU8 0 at (λ a b e. onceU8 e refl);
-      u16 = λ at. reader saidU16 0 at (λ a b e. onceU16 e refl);
-      u32 = λ at. reader saidU32 0 at (λ a b e. onceU32 e refl);
-      address = λ at. reader saidAddress zeroAddress at (λ a b e. onceAddress e refl);
-      place = call saidPlace 0 (λ a b e. oncePlace e refl);
-      size = call saidSize 0 (λ a b e. onceSize e refl);
-      encoding = call saidEncoding Simple (λ a b e. onceEncoding e refl);
-      corrected = call saidCorrected 0 (λ a b e. onceCorrected e refl);
-      consistency = call saidConsistent false (λ a b e. onceConsistent e refl);
+      u8 = λ at. reader-answers saidU8 0 at (λ a b e. onceU8 e refl);
+      u16 = λ at. reader-answers saidU16 0 at (λ a b e. onceU16 e refl);
+      u32 = λ at. reader-answers saidU32 0 at (λ a b e. onceU32 e refl);
+      address = λ at. reader-answers saidAddress zeroAddress at (λ a b e. onceAddress e refl);
+      place = call-answers saidPlace 0 (λ a b e. oncePlace e refl);
+      size = call-answers saidSize 0 (λ a b e. onceSize e refl);
+      encoding = call-answers saidEncoding Simple (λ a b e. onceEncoding e refl);
+      corrected = call-answers saidCorrected 0 (λ a b e. onceCorrected e refl);
+      consistency = call-answers saidConsistent false (λ a b e. onceConsistent e refl);
       sequence = λ at. record { refuses = λ why. refl; zero = λ why. refl };
       fixed = record { refuses = λ why. refl; zero = λ why. refl };
-      head = reader saidHead zeroHead 0 (λ a b e. onceHead e refl);
-      body = λ at. reader saidBody zeroBody at (λ a b e. onceBody e refl);
-      data-path = reader saidDataPath zeroDataPath 0 (λ a b e. onceDataPath e refl);
+      head = reader-answers saidHead zeroHead 0 (λ a b e. onceHead e refl);
+      body = λ at. reader-answers saidBody zeroBody at (λ a b e. onceBody e refl);
+      data-path = reader-answers saidDataPath zeroDataPath 0 (λ a b e. onceDataPath e refl);
       synchronization = record { refuses = λ why. refl; zero = λ why. refl };
-      frame = reader saidFrame zeroFrame 0 (λ a b e. onceFrame e refl);
-      delta = call saidDelta 0 (λ a b e. onceDelta e refl);
+      frame = reader-answers saidFrame zeroFrame 0 (λ a b e. onceFrame e refl);
+      delta = call-answers saidDelta 0 (λ a b e. onceDelta e refl);
       end = λ a b e. onceEnd e refl;
       found = λ a b e. onceFoundDataPath e refl;
       wrote = λ s bytes said other after last p q. (p .size ∙ sym (q .size), p .buffer ∙ sym (q .buffer));

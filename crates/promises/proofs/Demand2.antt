@@ -11,11 +11,11 @@ use Rattle.data_path_fields.specs.Words.{extendedKept, optionsKept}
 use Rattle.data_path_state.specs.declared.data_path_state_tlv.DataPathStateTLV.{DataPathStateTLV}
 use Rattle.data_path_state.specs.DataPath.{dataPath}
 use Rattle.data_path_state.specs.Consistent.{consistent, ChannelRight}
-use Rattle.data_path_state.specs.Bytes.{laidDown, sum}
+use Rattle.data_path_state.specs.Bytes.{recordBytes, sum}
 use Rattle.data_path_state.specs.Mended.{mended}
 use Rattle.data_path_state.specs.Rewritten as D
 use Rattle.data_path_state.proofs.Sizes.{size-range}
-use Rattle.data_path_state.proofs.Accepted.{read-consistent}
+use Rattle.data_path_state.proofs.ReadConsistent.{read-consistent}
 use Rattle.data_path_state.proofs.Again.{written-again as data-path-again}
 use Rattle.data_path_state.proofs.Mending.{mended-consistent, mended-same}
 use Rattle.synchronization_parameters.specs.declared.synchronization_parameters_tlv.SynchronizationParametersTLV.{SynchronizationParametersTLV}
@@ -29,7 +29,7 @@ use Rattle.tlvs.specs.Search.{allFrom, nextFrom, found, nothing}
 use Rattle.tlvs.proofs.Searches.{finds}
 use Rattle.tlvs.specs.Sent.{AllSendable, Sent, sentIn, tailWith}
 use Rattle.report.specs.Lines.{dumpLines}
-use Rattle.report.specs.Marks.{firstMark, Gives}
+use Rattle.report.specs.Marks.{firstMark, GivesLines}
 use Rattle.report.proofs.Report.{gives-dump, gives-once}
 use Rattle.promises.specs.Formats as formats
 use Rattle.promises.specs.Formats.{RoundTrip}
@@ -52,15 +52,15 @@ pub record Demand2 : Type 2 where
   pub data-paths-consistent : (s : List ℕ) (at : ℕ) {next : ℕ} {r : DataPathStateTLV} → dataPath s at ≡ read r next → consistent r ≡ true
   -- a value that was read and is written again gives the bytes that `rewritten` says: its own, but for what is dropped
   pub data-paths-again : (s : List ℕ) (at : ℕ) {next : ℕ} {r : DataPathStateTLV} → dataPath s at ≡ read r next
-      → D.rewritten s at ≡ read (laidDown r) next
+      → D.rewritten s at ≡ read (recordBytes r) next
   pub synchronizations-again : (s : List ℕ) → ((i : ℕ) → getD s i 0 < 256) → {p : SynchronizationParametersTLV} {size : ℕ}
       → synchronization s 0 ≡ read p size → S.rewritten s 0 ≡ read (bytesOf p) size
   -- mending makes a record consistent, unless its channel is present and wrong, and leaves a consistent one as it is
   pub mended-consistent : (r : DataPathStateTLV) → ChannelRight r → consistent (mended r) ≡ true
   pub mended-same : (r : DataPathStateTLV) → r .flags .0 < 2 ^ 16 → consistent r ≡ true → mended r ≡ r
   -- the dump is given the lines of its input, and no others
-  pub dumped : (input : List ℕ) → Gives input (firstMark input) (dumpLines input)
-  pub dumped-once : (input : List ℕ) {lines : List (List ℕ)} → Gives input (firstMark input) lines → lines ≡ dumpLines input
+  pub dumped : (input : List ℕ) → GivesLines input (firstMark input) (dumpLines input)
+  pub dumped-once : (input : List ℕ) {lines : List (List ℕ)} → GivesLines input (firstMark input) lines → lines ≡ dumpLines input
   -- items that are written one behind the other are the items that the walk gives, each whole
   pub tails : (its : List Sent) → AllSendable its → (sentIn (tailWith its) ≡ its) × (walk (tailWith its) .ending ≡ whole)
   -- going on from each record that the search finds gives all the accepted records of the type, and it ends behind the last one

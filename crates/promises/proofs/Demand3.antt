@@ -10,10 +10,10 @@ use Rattle.data_path_state.specs.declared.data_path_state_tlv.DataPathStateTLV.
 use Rattle.data_path_state.specs.DataPath.{dataPath}
 use Rattle.data_path_state.proofs.Values.{cut-value}
 use Rattle.tlvs.specs.Walk.{whole, walk}
-use Rattle.tlvs.specs.ItemBytes.{laidOut}
+use Rattle.tlvs.specs.ItemBytes.{typeLengthValue}
 use Rattle.action_frame.specs.Frames.{tailOf}
 use Rattle.tlvs.specs.Sent.{Sent, sentIn, tailWith}
-use Rattle.promises.specs.Later.{Unread, Accepted, insert, grow, WholeFrame, Later, received}
+use Rattle.promises.specs.Later.{Unread, AcceptedValue, insert, grow, WholeFrame, Later, received}
 use Rattle.promises.proofs.LaterFrames.{whole-written, changed, items-after, received-after}
 
 -- Take a frame whose header is accepted and whose items are all whole. A later frame comes from it by putting in items that we
@@ -28,11 +28,11 @@ pub record Demand3 : Type 0 where
   pub written : (frame : List ℕ) → WholeFrame frame → frame ≡ take 12 frame ++ tailWith (sentIn (tailOf frame))
   -- an item that we do not read can be put in before the first item, behind the last one, and between any two,
   pub inserted : (frame : List ℕ) (front back : List Sent) (it : Sent) → sentIn (tailOf frame) ≡ front ++ back → Unread it
-      → Later frame (take 12 frame ++ (tailWith front ++ (laidOut (it .type) (it .value) ++ tailWith back)))
+      → Later frame (take 12 frame ++ (tailWith front ++ (typeLengthValue (it .type) (it .value) ++ tailWith back)))
   -- any accepted value that has room can get more bytes,
   pub grown : (frame : List ℕ) (front back : List Sent) (it : Sent) (bytes : List ℕ) → sentIn (tailOf frame) ≡ front ++ (it ∷ back)
-      → Accepted it → length (it .value ++ bytes) ≤ 65535
-      → Later frame (take 12 frame ++ (tailWith front ++ (laidOut (it .type) (it .value ++ bytes) ++ tailWith back)))
+      → AcceptedValue it → length (it .value ++ bytes) ≤ 65535
+      → Later frame (take 12 frame ++ (tailWith front ++ (typeLengthValue (it .type) (it .value ++ bytes) ++ tailWith back)))
   -- and the walk of the later frame gives the changed items, all of them whole
   pub items : (before after : List ℕ) → WholeFrame before → (later : Later before after)
       → (sentIn (tailOf after) ≡ later .items) × (walk (tailOf after) .ending ≡ whole)

@@ -8,7 +8,7 @@ use Rattle.wire.specs.Refusals.{numberOf}
 use Rattle.wire.specs.Reading.{field}
 use Rattle.wire.specs.Answer.{answer, placeOf}
 use Rattle.wire.specs.Numbers.{number, littleBytes}
-use Rattle.wire.specs.Words.{laid}
+use Rattle.wire.specs.Words.{wordBy}
 use Rattle.wire.specs.Addresses.{address, addressBytes}
 use Rattle.wire.specs.Parts.{partAt}
 use Rattle.wire.specs.Writing.{within, Put, Wrote}
@@ -29,7 +29,7 @@ use Rattle.synchronization_parameters.specs.SynchronizationReader.{synchronizat
 use Rattle.synchronization_parameters.specs.SynchronizationBytes as S
 use Rattle.synchronization_parameters.specs.Said.{synchronizationRead}
 use Rattle.tlvs.specs.Items.{stepAt, valueOf, valueStart}
-use Rattle.tlvs.specs.Walk.{walk, reportOf}
+use Rattle.tlvs.specs.Walk.{walk, endReport}
 use Rattle.tlvs.specs.Search.{nextDataPath, nextSynchronization}
 use Rattle.tlvs.specs.ItemBytes.{itemBytes}
 use Rattle.tlvs.specs.Said.{saidEnd, saidFoundDataPath, synchronizationFound}
@@ -137,9 +137,9 @@ pub record EveryCall : Type 2 where
   pub channel-word-as-u16 : Call words.as_u16.Symbol.routine words.as_u16.ended
       (λ κs a r e. r ≡ wordOf (a .0))
   pub unicast-options-from-bits : Call options.from_bits.Symbol.routine options.from_bits.ended
-      (λ κs a r e. r .0 ≡ laid optionsKept (a .0))
+      (λ κs a r e. r .0 ≡ wordBy optionsKept (a .0))
   pub extended-flags-from-bits : Call extended.from_bits.Symbol.routine extended.from_bits.ended
-      (λ κs a r e. r .0 ≡ laid extendedKept (a .0))
+      (λ κs a r e. r .0 ≡ wordBy extendedKept (a .0))
   -- synchronization records
   pub synchronization-read : Call synchronizations.read.Symbol.routine synchronizations.read.ended
       (λ κs a r e. r ≡ synchronizationRead (synchronization (now (a .0)) 0))
@@ -151,7 +151,7 @@ pub record EveryCall : Type 2 where
   pub value : Call tlvs.value.Symbol.routine tlvs.value.ended
       (λ κs a r e. (now r ≡ valueOf (now (a .0)) (a .1 .0)) × (r .ptr ≡ partAt (valueStart (now (a .0)) (a .1 .0)) (a .0 .ptr)))
   pub end : Call tlvs.end.Symbol.routine tlvs.end.ended
-      (λ κs a r e. saidEnd r ≡ reportOf (walk (now (a .0))))
+      (λ κs a r e. saidEnd r ≡ endReport (walk (now (a .0))))
   pub next-data-path : Call tlvs.next_data_path.Symbol.routine tlvs.next_data_path.ended
       (λ κs a r e. saidFoundDataPath r ≡ nextDataPath (now (a .0)) (a .1 .0))
   pub first-data-path : Call tlvs.first_data_path.Symbol.routine tlvs.first_data_path.ended

@@ -7,18 +7,18 @@ use mathlib.Core.List.{List, [], _∷_, _++_, append-assoc}
 use lib.ListN.{length, take, take-append-drop}
 use lib.Seq.{length-take-le, take-at, drop-at}
 use Rattle.wire.specs.Reading.{Reader}
-use Rattle.wire.proofs.Lawful.{Same}
+use Rattle.wire.proofs.Lawful.{SameUpTo}
 use Rattle.data_path_state.specs.DataPath.{dataPath}
 use Rattle.synchronization_parameters.specs.SynchronizationReader.{synchronization}
 use Rattle.tlvs.specs.Walk.{whole, walk}
-use Rattle.tlvs.specs.ItemBytes.{laidOut}
+use Rattle.tlvs.specs.ItemBytes.{typeLengthValue}
 use Rattle.action_frame.specs.Frames.{header, tailOf}
 use Rattle.action_frame.proofs.RoundTrip.{header-lawful}
 use Rattle.tlvs.specs.Sent.{AllSendable, Sent, sentIn, tailWith}
-use Rattle.promises.specs.Later.{Change, behind, none, more, WholeFrame, Later, records, received}
-use Rattle.promises.proofs.Tails.{spelt, found-again}
+use Rattle.promises.specs.Later.{Change, further, none, more, WholeFrame, Later, records, received}
+use Rattle.promises.proofs.Tails.{spelt, walked-back}
 use Rattle.promises.proofs.Takes.{header-size}
-use Rattle.promises.proofs.Changes.{recordsOf, records-sent, synchronizations-kept, data-paths-kept, changes-fit}
+use Rattle.promises.proofs.Changes.{recordsIn, records-sent, synchronizations-kept, data-paths-kept, changes-fit}
 
 pub whole-written : (frame : List ℕ) → WholeFrame frame → frame ≡ take 12 frame ++ tailWith (sentIn (tailOf frame))
 whole-written frame w =
@@ -27,13 +27,13 @@ whole-written frame w =
 
 changed-tail : (front : List Sent) {items changed : List Sent} → Change items changed → Change (front ++ items) (front ++ changed)
 changed-tail [] c = c
-changed-tail (it ∷ front) c = behind it (changed-tail front c)
+changed-tail (it ∷ front) c = further it (changed-tail front c)
 
 tail-append : (front back : List Sent) → tailWith (front ++ back) ≡ tailWith front ++ tailWith back
 tail-append [] back = refl
 tail-append (it ∷ front) back =
-    ap (λ (r : List ℕ). laidOut (it .type) (it .value) ++ r) (tail-append front back)
-    ∙ sym (append-assoc (laidOut (it .type) (it .value)) (tailWith front) (tailWith back))
+    ap (λ (r : List ℕ). typeLengthValue (it .type) (it .value) ++ r) (tail-append front back)
+    ∙ sym (append-assoc (typeLengthValue (it .type) (it .value)) (tailWith front) (tailWith back))
 
 -- one change at a place between items
 pub changed : (frame : List ℕ) (front : List Sent) {items changed : List Sent} → sentIn (tailOf frame) ≡ front ++ items → Change items changed
@@ -59,21 +59,21 @@ module _ (before after : List ℕ) (w : WholeFrame before) (later : Later before
   tail-after : tailOf after ≡ tailWith (later .items)
   tail-after = rw (later .bytes) (drop-at (take 12 before) (tailWith (later .items)) 12 front-length)
 
-  front-same : Same (w .size) before after
+  front-same : SameUpTo (w .size) before after
   front-same = rw (twelve, later .bytes) (sym (take-at (take 12 before) (tailWith (later .items)) 12 front-length))
 
   header-after : header after 0 ≡ header before 0
   header-after = header-lawful .local {s = before} {t = after} {at = 0} (omega arith) (w .accepted) front-same ∙ sym (w .accepted)
 
   pub items-after : (sentIn (tailOf after) ≡ later .items) × (walk (tailOf after) .ending ≡ whole)
-  items-after = let f = found-again (later .items) fit in (rw tail-after (f .sent), rw tail-after (f .ending))
+  items-after = let f = walked-back (later .items) fit in (rw tail-after (f .sent), rw tail-after (f .ending))
 
   records-after : {A : Type 0} (type : ℕ) (reader : Reader A)
-      → recordsOf type reader (later .items) ≡ recordsOf type reader (sentIn (tailOf before))
+      → recordsIn type reader (later .items) ≡ recordsIn type reader (sentIn (tailOf before))
       → records type reader (tailOf after) ≡ records type reader (tailOf before)
   records-after type reader kept =
       records-sent type reader (tailOf after)
-      ∙ ap (recordsOf type reader) (items-after .0)
+      ∙ ap (recordsIn type reader) (items-after .0)
       ∙ kept
       ∙ sym (records-sent type reader (tailOf before))
 

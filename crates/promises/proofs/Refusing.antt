@@ -13,7 +13,7 @@ use Rattle.wire.specs.Reading.{Reading, refused}
 use Rattle.wire.specs.Answer.{Answer, answer, refusal}
 use Rattle.wire.specs.Outcomes.{outcome, result}
 use Rattle.wire.specs.Writing.{fits, Put, afterwards, Wrote}
-use Rattle.wire.proofs.Once.{once}
+use Rattle.wire.proofs.Once.{only-one}
 use Rattle.promises.specs.Answers.{refusedOutcome, refusedResult, Once, Answering}
 
 pub number-range : (why : Refusal) → (1 ≤ numberOf why) × (numberOf why ≤ 9)
@@ -40,7 +40,7 @@ numbered n =
     (cond (eqb n 8) TooLong SentBeforeHandOver)))))))
 
 pub numbers-apart : (why other : Refusal) → numberOf why ≡ numberOf other → why ≡ other
-numbers-apart why other e = once numberOf numbered back e refl
+numbers-apart why other e = only-one numberOf numbered back e refl
   where
     back : (w : Refusal) → numbered (numberOf w) ≡ w
     back Short = refl
@@ -53,13 +53,13 @@ numbers-apart why other e = once numberOf numbered back e refl
     back TooLong = refl
     back SentBeforeHandOver = refl
 
-pub reader : {T A : Type 0} (said : T → Reading A) (nothing : A) (at : ℕ) → Once said
+pub reader-answers : {T A : Type 0} (said : T → Reading A) (nothing : A) (at : ℕ) → Once said
     → Answering said refused (λ a. outcome nothing at (said a)) (refusedOutcome nothing)
-reader said nothing at only = record { once = only; refuses = λ a why e. ap (outcome nothing at) e }
+reader-answers said nothing at only = record { once = only; refuses = λ a why e. ap (outcome nothing at) e }
 
-pub call : {T A : Type 0} (said : T → Answer A) (nothing : A) → Once said
+pub call-answers : {T A : Type 0} (said : T → Answer A) (nothing : A) → Once said
     → Answering said refusal (λ a. result nothing (said a)) (refusedResult nothing)
-call said nothing only = record { once = only; refuses = λ a why e. ap (result nothing) e }
+call-answers said nothing only = record { once = only; refuses = λ a why e. ap (result nothing) e }
 
 left : (s : List ℕ) (bytes : Answer (List ℕ)) (why : Refusal) → afterwards s bytes (refusal why) ≡ s
 left s (answer bytes) why = refl

@@ -14,26 +14,26 @@ use Rattle.wire.specs.Reading.{Reader, read}
 use Rattle.wire.specs.Answer.{answer}
 use Rattle.wire.proofs.ReadsBack.{Back}
 use Rattle.channel_sequence.proofs.RoundTrip as Q
-use Rattle.data_path_state.specs.Bytes.{laidDown}
-use Rattle.data_path_state.proofs.Sizes.{length-laid}
+use Rattle.data_path_state.specs.Bytes.{recordBytes}
+use Rattle.data_path_state.proofs.Sizes.{length-record}
 use Rattle.data_path_state.proofs.RoundTrip as D
 use Rattle.synchronization_parameters.specs.SynchronizationBytes.{bytesOf}
 use Rattle.synchronization_parameters.proofs.RoundTrip as S
 use Rattle.tlvs.specs.declared.item.Step.{Step}
 use Rattle.tlvs.specs.Walk.{whole, walk}
-use Rattle.tlvs.specs.Search.{Accepted, firstOf, nothing}
-use Rattle.tlvs.specs.ItemBytes.{laidOut}
-use Rattle.tlvs.proofs.Sizes.{sized-bytes, laid-length}
+use Rattle.tlvs.specs.Search.{Match, firstOf, nothing}
+use Rattle.tlvs.specs.ItemBytes.{typeLengthValue}
+use Rattle.tlvs.proofs.Sizes.{sized-bytes, item-length}
 use Rattle.tlvs.proofs.RoundTrip as T
 use Rattle.action_frame.specs.Frames as F′
 use Rattle.action_frame.proofs.RoundTrip as F
 use Rattle.tlvs.specs.Sent.{Sent, AllSendable, sentIn, tailWith}
 use Rattle.promises.specs.Formats.{Format, Fills, RoundTrip, sequences, dataPaths, synchronizations, items, frames}
-use Rattle.promises.proofs.Tails.{found-again}
+use Rattle.promises.proofs.Tails.{walked-back}
 
 -- what is read back with anything behind is read back from a buffer
 fills : (F : Format) (r : F .Record) (bytes : List ℕ) → F .bytes r ≡ answer bytes → F .size r ≡ answer (length bytes)
-    → ((behind : List ℕ) → F .Found r (bytes ++ behind) (length bytes)) → Fills F r
+    → ((behind : List ℕ) → F .ReadAs r (bytes ++ behind) (length bytes)) → Fills F r
 fills F r bytes written size found =
     record {
       bytes = bytes;
@@ -55,7 +55,7 @@ sequence-round q ok = let w = Q.round-trip q (ok .0) (ok .1) in fills sequences 
 
 pub data-path-round : RoundTrip dataPaths
 data-path-round r ok =
-    fills dataPaths r (laidDown r) (rw (ok .1)) (rw (ok .1, length-laid r (ok .1))) (start (D.record-back r (ok .0) (ok .1)))
+    fills dataPaths r (recordBytes r) (rw (ok .1)) (rw (ok .1, length-record r (ok .1))) (start (D.record-back r (ok .0) (ok .1)))
 
 pub synchronization-round : RoundTrip synchronizations
 synchronization-round p ok =
@@ -64,8 +64,8 @@ synchronization-round p ok =
 pub item-round : RoundTrip items
 item-round it ok =
     let fits : leb (length (it .value)) 65535 ≡ true = le-leb (length (it .value)) 65535 (ok .short) in
-    fills items it (laidOut (it .type) (it .value)) (sized-bytes (it .type) (it .value) (ok .short))
-    (rw fits (ap answer (sym (laid-length (it .type) (it .value)))))
+    fills items it (typeLengthValue (it .type) (it .value)) (sized-bytes (it .type) (it .value) (ok .short))
+    (rw fits (ap answer (sym (item-length (it .type) (it .value)))))
     (λ behind. (T.step-back it ok [] behind ∙ ap (Step.Item (T.itemAt 0 it)) (zero-add (length (T.bytesOf it))), T.value-back it [] behind))
 
 pub frame-round : RoundTrip frames
@@ -76,9 +76,9 @@ frame-round f ok =
     (λ behind. (w .head behind, ap F′.tailOf (take-append-seam bytes behind) ∙ w .rest))
 
 pub tail-round : (its : List Sent) → AllSendable its → (sentIn (tailWith its) ≡ its) × (walk (tailWith its) .ending ≡ whole)
-tail-round its ok = let w = found-again its ok in (w .sent, w .ending)
+tail-round its ok = let w = walked-back its ok in (w .sent, w .ending)
 
 -- nothing is found where there is nothing
-pub found-none : {A : Type 0} (xs : List (Accepted A)) → firstOf xs ≡ nothing → xs ≡ []
+pub found-none : {A : Type 0} (xs : List (Match A)) → firstOf xs ≡ nothing → xs ≡ []
 found-none [] e = refl
 found-none (x ∷ xs) e = absurd (let z : _≡_ {A = ℕ} 0 1 = cc in omega arith)

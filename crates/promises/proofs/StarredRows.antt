@@ -3,11 +3,11 @@
 use mathlib.Core.Path.{refl}
 use Rattle.channel_sequence.specs.Channels.{encodingOf}
 use Rattle.data_path_state.specs.Consistent.{consistent}
-use Rattle.data_path_state.specs.Bytes.{laidDown}
+use Rattle.data_path_state.specs.Bytes.{recordBytes}
 use Rattle.tlvs.specs.Items.{stepAt}
 use Rattle.tlvs.specs.Walk.{walkFrom}
 use Rattle.promises.specs.Rows.{AllHold, rows}
 
 pub starred-rows : AllHold rows
-unfolding rows encodingOf consistent laidDown stepAt walkFrom
+unfolding rows encodingOf consistent recordBytes stepAt walkFrom
 starred-rows = (refl, (refl, (refl, (refl, (refl, (refl, (refl, (refl, (refl, (refl, (refl, (refl, (refl, (refl, (refl, (refl, (refl, (refl, tt))))))))))))))))))

@@ -16,11 +16,11 @@ use Rattle.wire.proofs.Bytes.{number-whole}
 use Rattle.tlvs.specs.declared.item.Item.{Item}
 use Rattle.tlvs.specs.declared.item.Step.{Step}
 use Rattle.tlvs.specs.Items.{item, stepOf, stepAt, valueOf}
-use Rattle.tlvs.specs.ItemBytes.{laidOut}
+use Rattle.tlvs.specs.ItemBytes.{typeLengthValue}
 use Rattle.tlvs.specs.Sent.{Sent, Sendable, AllSendable, sent, sentIn, tailWith}
 use Rattle.tlvs.specs.Walk.{whole, Walk, goOn, walkFrom, walk}
 use Rattle.tlvs.proofs.Steps.{step-stands, step-whole}
-use Rattle.tlvs.proofs.RoundTrip.{laid-back}
+use Rattle.tlvs.proofs.RoundTrip.{tail-back}
 
 -- each byte of a list is one
 abbrev pub Bytes : List ℕ → Type 0
@@ -69,7 +69,7 @@ three-bytes s at h =
 
 -- an item that a step finds in bytes: the bytes from its place on are its own and then those behind it, and it can be written
 record Split (s : List ℕ) (at : ℕ) (it : Item) (next : ℕ) : Type 0 where
-  bytes : drop at s ≡ laidOut (it .«tlv_type») (valueOf s it) ++ drop next s
+  bytes : drop at s ≡ typeLengthValue (it .«tlv_type») (valueOf s it) ++ drop next s
   fits : Sendable (sent s it)
 
 split : (s : List ℕ) (at : ℕ) {it : Item} {next : ℕ} → Bytes s → stepAt s at ≡ Step.Item it next → Split s at it next
@@ -126,9 +126,9 @@ spelt tail b e =
     record { bytes = sym (w .bytes); fit = w .fit }
 
 -- and what is written is found
-pub record Found (items : List Sent) : Type 0 where
+pub record WalkedBack (items : List Sent) : Type 0 where
   pub sent : sentIn (tailWith items) ≡ items
   pub ending : walk (tailWith items) .ending ≡ whole
 
-pub found-again : (items : List Sent) → AllSendable items → Found items
-found-again items ok = let w = laid-back items ok in record { sent = w .items; ending = w .ending }
+pub walked-back : (items : List Sent) → AllSendable items → WalkedBack items
+walked-back items ok = let w = tail-back items ok in record { sent = w .items; ending = w .ending }

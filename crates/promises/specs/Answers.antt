@@ -22,6 +22,6 @@ pub record Answering {T S O : Type 0} (said : T → S) (refuse : Refusal → S) 
 
 -- a struct that holds an enum beside the value, by the one struct that is made of what is said: where that is a refusal, the
 -- struct stands for it, and the value that it holds is the zero value
-pub record Holding {T S O A : Type 0} (made : S → T) (refuse : Refusal → S) (stands : T → O) (refusal : Refusal → O) (value : T → A) (nothing : A) : Type 0 where
+pub record HeldBeside {T S O A : Type 0} (made : S → T) (refuse : Refusal → S) (stands : T → O) (refusal : Refusal → O) (value : T → A) (nothing : A) : Type 0 where
   pub refuses : (why : Refusal) → stands (made (refuse why)) ≡ refusal why
   pub zero : (why : Refusal) → value (made (refuse why)) ≡ nothing

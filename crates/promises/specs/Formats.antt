@@ -5,7 +5,7 @@ use mathlib.Core.Bool.{true}
 use mathlib.Core.List.{List, _++_}
 use lib.ListN.{length, take, drop}
 use Rattle.wire.specs.Reading.{read}
-use Rattle.wire.specs.Numbers.{Fits}
+use Rattle.wire.specs.Numbers.{AllInWidth}
 use Rattle.wire.specs.Answer.{Answer, answer}
 use Rattle.wire.specs.Writing.{Wrote}
 use Rattle.channel_sequence.specs.declared.channel_sequence.ChannelSequence.{ChannelSequence}
@@ -35,7 +35,7 @@ pub record Format : Type 1 where
   pub bytes : Record → Answer (List ℕ)
   pub size : Record → Answer ℕ
   pub Consistent : Record → Type 0
-  pub Found : Record → List ℕ → ℕ → Type 0
+  pub ReadAs : Record → List ℕ → ℕ → Type 0
 
 -- of a record: it is written as some bytes, and its size is their number; they are read back as the record, with anything
 -- behind them. A writer with enough room answers the size and puts them down, and what stood behind them still stands there.
@@ -43,9 +43,9 @@ pub record Fills (F : Format) (r : F .Record) : Type 0 where
   pub bytes : List ℕ
   pub written : F .bytes r ≡ answer bytes
   pub size : F .size r ≡ answer (length bytes)
-  pub found : (behind : List ℕ) → F .Found r (bytes ++ behind) (length bytes)
+  pub found : (behind : List ℕ) → F .ReadAs r (bytes ++ behind) (length bytes)
   pub filled : (s : List ℕ) (said : Answer ℕ) (after : List ℕ) → length bytes ≤ length s → Wrote s (F .bytes r) said after
-      → (said ≡ answer (length bytes)) × (after ≡ bytes ++ drop (length bytes) s) × F .Found r after (length bytes)
+      → (said ≡ answer (length bytes)) × (after ≡ bytes ++ drop (length bytes) s) × F .ReadAs r after (length bytes)
 
 -- every consistent record of a format
 abbrev pub RoundTrip : Format → Type 0
@@ -58,7 +58,7 @@ sequences =
       bytes = Q.bytesOf;
       size = Q.sizeOf;
       Consistent = λ q. (length (q .bytes) ≡ 32) × (Q.consistent q ≡ answer true);
-      Found = λ q s n. sequence (q .encoding) s 0 ≡ read q n;
+      ReadAs = λ q s n. sequence (q .encoding) s 0 ≡ read q n;
     }
 
 abbrev pub dataPaths : Format
@@ -68,7 +68,7 @@ dataPaths =
       bytes = D.bytesOf;
       size = D.sizeOf;
       Consistent = λ r. Ranges r × (consistent r ≡ true);
-      Found = λ r s n. dataPath s 0 ≡ read r n;
+      ReadAs = λ r s n. dataPath s 0 ≡ read r n;
     }
 
 -- every record is consistent, and takes 33 bytes
@@ -78,8 +78,8 @@ synchronizations =
       Record = SynchronizationParametersTLV;
       bytes = λ p. answer (S.bytesOf p);
       size = λ p. answer 33;
-      Consistent = λ p. Fits (S.numbers p);
-      Found = λ p s n. synchronization s 0 ≡ read p n;
+      Consistent = λ p. AllInWidth (S.numbers p);
+      ReadAs = λ p s n. synchronization s 0 ≡ read p n;
     }
 
 -- a step of the walk finds the item, and its value
@@ -90,7 +90,7 @@ items =
       bytes = λ it. itemBytes (it .type) (it .value);
       size = λ it. itemSize (length (it .value));
       Consistent = Sendable;
-      Found = λ it s n.
+      ReadAs = λ it s n.
           let numbers : Item = record { at = 0; «tlv_type» = it .type; length = length (it .value) } in
           (stepAt s 0 ≡ Step.Item numbers n) × (valueOf s numbers ≡ it .value);
     }
@@ -108,5 +108,5 @@ frames =
       bytes = λ f. answer (F.bytesOf (f .head) (f .tail));
       size = λ f. answer (12 + length (f .tail));
       Consistent = λ f. F.InWidth (f .head);
-      Found = λ f s n. (header s 0 ≡ read (f .head) 12) × (tailOf (take n s) ≡ f .tail);
+      ReadAs = λ f s n. (header s 0 ≡ read (f .head) 12) × (tailOf (take n s) ≡ f .tail);
     }

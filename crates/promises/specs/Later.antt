@@ -22,9 +22,9 @@ pub record Unread (it : Sent) : Type 0 where
   pub short : length (it .value) ≤ 65535
 
 -- an item of a type that we read, whose value its reader accepts
-pub data Accepted (it : Sent) : Type 0 where
-  as-synchronization : {p : SynchronizationParametersTLV} {size : ℕ} → it .type ≡ 0x04 → synchronization (it .value) 0 ≡ read p size → Accepted it
-  as-data-path : {r : DataPathStateTLV} {size : ℕ} → it .type ≡ 0x0C → dataPath (it .value) 0 ≡ read r size → Accepted it
+pub data AcceptedValue (it : Sent) : Type 0 where
+  as-synchronization : {p : SynchronizationParametersTLV} {size : ℕ} → it .type ≡ 0x04 → synchronization (it .value) 0 ≡ read p size → AcceptedValue it
+  as-data-path : {r : DataPathStateTLV} {size : ℕ} → it .type ≡ 0x0C → dataPath (it .value) 0 ≡ read r size → AcceptedValue it
 
 abbrev pub longer : Sent → List ℕ → Sent
 longer it more = record { type = it .type; value = it .value ++ more }
@@ -33,8 +33,8 @@ longer it more = record { type = it .type; value = it .value ++ more }
 -- at the front, or anywhere behind it
 pub data Change : List Sent → List Sent → Type 0 where
   insert : {rest : List Sent} (it : Sent) → Unread it → Change rest (it ∷ rest)
-  grow : {rest : List Sent} (it : Sent) (more : List ℕ) → Accepted it → length (it .value ++ more) ≤ 65535 → Change (it ∷ rest) (longer it more ∷ rest)
-  behind : {items changed : List Sent} (it : Sent) → Change items changed → Change (it ∷ items) (it ∷ changed)
+  grow : {rest : List Sent} (it : Sent) (more : List ℕ) → AcceptedValue it → length (it .value ++ more) ≤ 65535 → Change (it ∷ rest) (longer it more ∷ rest)
+  further : {items changed : List Sent} (it : Sent) → Change items changed → Change (it ∷ items) (it ∷ changed)
 
 -- any number of changes, one after the other
 pub data Changes : List Sent → List Sent → Type 0 where

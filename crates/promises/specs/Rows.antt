@@ -20,9 +20,9 @@ use Rattle.action_frame.specs.declared.AWDLActionFrame.{AWDLActionFrame}
 use Rattle.action_frame.specs.Frames.{header, zeroFrame}
 
 -- what is written of the record that a value is read as
-abbrev pub writtenAgain : Reading DataPathStateTLV → Answer (List ℕ)
-writtenAgain (read r size) = bytesOf r
-writtenAgain (refused why) = refusal why
+abbrev pub bytesReadAndWritten : Reading DataPathStateTLV → Answer (List ℕ)
+bytesReadAndWritten (read r size) = bytesOf r
+bytesReadAndWritten (refused why) = refusal why
 
 pub data Row : Type 0 where
   value : List ℕ → Outcome DataPathStateTLV → Row
@@ -34,7 +34,7 @@ pub data Row : Type 0 where
 -- a data path value is read, or read and written again; a frame's header is read; a tail is walked; the channel of legacy flags and a channel is corrected
 abbrev pub Holds : Row → Type 0
 Holds (value bytes expected) = outcome zeroDataPath 0 (dataPath bytes 0) ≡ expected
-Holds (again bytes expected) = result [] (writtenAgain (dataPath bytes 0)) ≡ expected
+Holds (again bytes expected) = result [] (bytesReadAndWritten (dataPath bytes 0)) ≡ expected
 Holds (frame bytes expected) = outcome zeroFrame 0 (header bytes 0) ≡ expected
 Holds (tail bytes expected) = walk bytes ≡ expected
 Holds (legacy flags channel expected) = result 0 (corrected (record { encoding = 1; first = flags; second = channel })) ≡ expected
@@ -47,8 +47,8 @@ AllHold (row ∷ rest) = Holds row × AllHold rest
 abbrev pub refusedWith : {A : Type 0} → ℕ → A → Outcome A
 refusedWith n nothing = record { number = n; value = nothing; size = 0 }
 
-abbrev pub given : {A : Type 0} → A → ℕ → Outcome A
-given a size = record { number = 0; value = a; size = size }
+abbrev pub acceptedWith : {A : Type 0} → A → ℕ → Outcome A
+acceptedWith a size = record { number = 0; value = a; size = size }
 
 abbrev pub written : List ℕ → Result (List ℕ)
 written bytes = record { number = 0; value = bytes }
@@ -82,13 +82,13 @@ map bits = record { present = true; channel = DataPathChannel.ChannelMap (record
 
 unfoldable pub rows : List Row
 rows =
-    value (0x00 ∷ 0x00 ∷ []) (given zeroDataPath 2)
+    value (0x00 ∷ 0x00 ∷ []) (acceptedWith zeroDataPath 2)
     ∷ value (0x00 ∷ 0x01 ∷ 0x44 ∷ 0x45 ∷ []) (refusedWith 1 zeroDataPath)
-    ∷ value (0x00 ∷ 0x01 ∷ 0x44 ∷ 0x45 ∷ 0x00 ∷ []) (given (holding 0x0100 (letters 0x44 0x45) noChannel) 5)
-    ∷ value (0x00 ∷ 0x02 ∷ 0x24 ∷ 0x00 ∷ []) (given (holding 0x0200 noCountry (single 36)) 4)
-    ∷ value (0x00 ∷ 0x02 ∷ 0x24 ∷ 0x01 ∷ []) (given (holding 0x0200 noCountry (single 36)) 4)
+    ∷ value (0x00 ∷ 0x01 ∷ 0x44 ∷ 0x45 ∷ 0x00 ∷ []) (acceptedWith (holding 0x0100 (letters 0x44 0x45) noChannel) 5)
+    ∷ value (0x00 ∷ 0x02 ∷ 0x24 ∷ 0x00 ∷ []) (acceptedWith (holding 0x0200 noCountry (single 36)) 4)
+    ∷ value (0x00 ∷ 0x02 ∷ 0x24 ∷ 0x01 ∷ []) (acceptedWith (holding 0x0200 noCountry (single 36)) 4)
     ∷ again (0x00 ∷ 0x02 ∷ 0x24 ∷ 0x01 ∷ []) (written (0x00 ∷ 0x02 ∷ 0x24 ∷ 0x00 ∷ []))
-    ∷ value (0x00 ∷ 0x02 ∷ 0xFF ∷ 0xFF ∷ []) (given (holding 0x0200 noCountry (map 7)) 4)
+    ∷ value (0x00 ∷ 0x02 ∷ 0xFF ∷ 0xFF ∷ []) (acceptedWith (holding 0x0200 noCountry (map 7)) 4)
     ∷ again (0x00 ∷ 0x02 ∷ 0xFF ∷ 0xFF ∷ []) (written (0x00 ∷ 0x02 ∷ 0x07 ∷ 0x00 ∷ []))
     ∷ value (0x00 ∷ 0x10 ∷ 0x05 ∷ 0x00 ∷ []) (refusedWith 4 zeroDataPath)
     ∷ again (0x00 ∷ 0x10 ∷ 0x04 ∷ 0x00 ∷ 0xFF ∷ 0xFF ∷ 0xFF ∷ 0xFF ∷ []) (written (0x00 ∷ 0x10 ∷ 0x04 ∷ 0x00 ∷ 0x6A ∷ 0xFE ∷ 0xFF ∷ 0xFF ∷ []))

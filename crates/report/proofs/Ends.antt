@@ -16,7 +16,7 @@ use Rattle.action_frame.specs.declared.AWDLActionFrame.{AWDLActionFrame}
 use Rattle.action_frame.specs.Frames.{header, tailOf}
 use Rattle.report.specs.declared.marks.Mark.{Mark}
 use Rattle.report.specs.declared.marks.Line.{Line}
-use Rattle.report.specs.Marks.{Stand, line, nothing, atHeader, atStep, behindItem, standsAt}
+use Rattle.report.specs.Marks.{Stand, line, nothing, atHeader, atStep, markBehind, standsAt}
 use Rattle.report.specs.Shown.{answerOf, bufferOf, Shows}
 
 -- how much is still to come from a mark, at most
@@ -34,7 +34,7 @@ Nearer frame n (line l next) = ahead frame next < n
 Nearer frame n nothing = Unit
 
 module _ (frame : List ℕ) where
-  behind-nearer : (it : Item) (next items n : ℕ) → 3 + 2 * (length (tailOf frame) - next) < n → ahead frame (behindItem it next items) < n
+  behind-nearer : (it : Item) (next items n : ℕ) → 3 + 2 * (length (tailOf frame) - next) < n → ahead frame (markBehind it next items) < n
   behind-nearer it next items n h = go (eqb (it .«tlv_type») 0x0C) (eqb (it .«tlv_type») 0x04)
     where
       go : (a b : Bool)

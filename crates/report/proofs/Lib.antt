@@ -1,5 +1,5 @@
 pub mod Digits
-pub mod Laid
+pub mod Room
 pub mod Places
 pub mod Report
 pub mod Ends

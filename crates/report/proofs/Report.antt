@@ -19,7 +19,7 @@ use Rattle.action_frame.specs.declared.AWDLActionFrame.{AWDLActionFrame}
 use Rattle.action_frame.specs.Frames.{header, tailOf}
 use Rattle.report.specs.declared.marks.Mark.{Mark}
 use Rattle.report.specs.Lines.{valueLines, itemsLines, endLine, linesOf, frameLines, tooLong, dumpLines}
-use Rattle.report.specs.Marks.{atHeader, behindItem, firstMark, Gives, done, more}
+use Rattle.report.specs.Marks.{atHeader, markBehind, firstMark, GivesLines, done, more}
 use Rattle.report.proofs.Places.{steps-to}
 
 -- the lines of a walk that has some items behind it
@@ -34,25 +34,25 @@ regroup v r items n end =
 
 module _ (frame : List ℕ) where
   -- behind an item's line comes the line of its value, where it has one
-  value-first : (it : Item) (next items : ℕ) (rest : List (List ℕ)) → Gives frame (Mark.Item next items) rest
-      → Gives frame (behindItem it next items) (valueLines (tailOf frame) it ++ rest)
+  value-first : (it : Item) (next items : ℕ) (rest : List (List ℕ)) → GivesLines frame (Mark.Item next items) rest
+      → GivesLines frame (markBehind it next items) (valueLines (tailOf frame) it ++ rest)
   value-first it next items rest g = go (eqb (it .«tlv_type») 0x0C) refl (eqb (it .«tlv_type») 0x04) refl
     where
       go : (a : Bool) → eqb (it .«tlv_type») 0x0C ≡ a → (b : Bool) → eqb (it .«tlv_type») 0x04 ≡ b
-          → Gives frame (behindItem it next items) (valueLines (tailOf frame) it ++ rest)
+          → GivesLines frame (markBehind it next items) (valueLines (tailOf frame) it ++ rest)
       go true e b f = rw e (more refl g)
       go false e true f = rw (e, f) (more refl g)
       go false e false f = rw (e, f) g
 
   by-step : (at items : ℕ) (found : Step) → stepAt (tailOf frame) at ≡ found → items ≤ at → at ≤ length (tailOf frame)
       → ((it : Item) (next : ℕ) → stepAt (tailOf frame) at ≡ Step.Item it next
-      → Gives frame (Mark.Item next (items + 1)) (left (tailOf frame) (items + 1) (walkAt (tailOf frame) next)))
-      → Gives frame (Mark.Item at items) (left (tailOf frame) items (goOn found (walkAt (tailOf frame))))
+      → GivesLines frame (Mark.Item next (items + 1)) (left (tailOf frame) (items + 1) (walkAt (tailOf frame) next)))
+      → GivesLines frame (Mark.Item at items) (left (tailOf frame) items (goOn found (walkAt (tailOf frame))))
   by-step at items (Step.Item it next) e h k rest =
       let w = walkAt (tailOf frame) next in
       let behind = value-first it next (items + 1) (left (tailOf frame) (items + 1) w) (rest it next e) in
       more (steps-to (tailOf frame) at items h k e)
-      (subst (Gives frame (behindItem it next (items + 1)))
+      (subst (GivesLines frame (markBehind it next (items + 1)))
       (sym (regroup (valueLines (tailOf frame) it) (itemsLines (tailOf frame) (w .items)) items (length (w .items)) (λ n. endLine n (w .ending))))
       behind)
   by-step at items Step.Whole e h k rest =
@@ -61,7 +61,7 @@ module _ (frame : List ℕ) where
       more {next = Mark.End} {l = endLine (items + 0) (cut place)} (steps-to (tailOf frame) at items h k e ∙ rw (add-zero items)) (done refl)
 
   gives-place : (m at items : ℕ) → length (tailOf frame) - at < m → items ≤ at → at ≤ length (tailOf frame)
-      → Gives frame (Mark.Item at items) (left (tailOf frame) items (walkAt (tailOf frame) at))
+      → GivesLines frame (Mark.Item at items) (left (tailOf frame) items (walkAt (tailOf frame) at))
   gives-place zero at items l h k = absurd (omega arith)
   gives-place (suc m) at items l h k =
       rw (walk-goes (tailOf frame) at refl)
@@ -69,25 +69,25 @@ module _ (frame : List ℕ) where
       (λ it next e. let w = step-stands (tailOf frame) at e in gives-place m next (items + 1) (omega arith) (omega arith) (omega arith)))
 
   -- the lines of a frame, whatever its length
-  pub gives-frame : Gives frame Mark.Frame (frameLines frame)
+  pub gives-frame : GivesLines frame Mark.Frame (frameLines frame)
   gives-frame = go (header frame 0) refl
     where
-      go : (r : Reading AWDLActionFrame) → header frame 0 ≡ r → Gives frame Mark.Frame (linesOf frame r)
+      go : (r : Reading AWDLActionFrame) → header frame 0 ≡ r → GivesLines frame Mark.Frame (linesOf frame r)
       go (read f size) e =
           let rest = gives-place (suc (length (tailOf frame))) 0 0 (omega arith) (omega arith) (omega arith) in
           more (ap atHeader e) (rw (zero-add (length (walk (tailOf frame) .items))) at rest)
       go (refused why) e = more (ap atHeader e) (done refl)
 
   -- what the dump shows
-  pub gives-dump : Gives frame (firstMark frame) (dumpLines frame)
+  pub gives-dump : GivesLines frame (firstMark frame) (dumpLines frame)
   gives-dump = go (leb (length frame) 4096)
     where
-      go : (b : Bool) → Gives frame (cond b Mark.Frame Mark.TooLong) (cond b (frameLines frame) (tooLong ∷ []))
+      go : (b : Bool) → GivesLines frame (cond b Mark.Frame Mark.TooLong) (cond b (frameLines frame) (tooLong ∷ []))
       go true = gives-frame
       go false = more refl (done refl)
 
   -- no other lines are given
-  pub gives-once : {m : Mark} {xs ys : List (List ℕ)} → Gives frame m xs → Gives frame m ys → xs ≡ ys
+  pub gives-once : {m : Mark} {xs ys : List (List ℕ)} → GivesLines frame m xs → GivesLines frame m ys → xs ≡ ys
   gives-once (done e) (done f) = refl
   gives-once (done e) (more f h) = absurd (let q = sym e ∙ f in let z : _≡_ {A = ℕ} 0 1 = cc in omega arith)
   gives-once (more e g) (done f) = absurd (let q = sym e ∙ f in let z : _≡_ {A = ℕ} 0 1 = cc in omega arith)

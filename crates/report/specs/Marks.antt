@@ -27,14 +27,14 @@ atHeader (read f size) = line (headerLine f) (Mark.Item 0 0)
 atHeader (refused why) = line (refusedLine why) Mark.End
 
 -- behind an item: its value where that is of a type that is read, or else what follows it
-abbrev pub behindItem : Item → ℕ → ℕ → Mark
-behindItem it next items =
+abbrev pub markBehind : Item → ℕ → ℕ → Mark
+markBehind it next items =
     cond (eqb (it .«tlv_type») 0x0C) (Mark.DataPath it next items)
     (cond (eqb (it .«tlv_type») 0x04) (Mark.Synchronization it next items) (Mark.Item next items))
 
 -- what the walk finds, with so many items before it
 abbrev pub atStep : ℕ → Step → Stand
-atStep items (Step.Item it next) = line (itemLine it) (behindItem it next (items + 1))
+atStep items (Step.Item it next) = line (itemLine it) (markBehind it next (items + 1))
 atStep items Step.Whole = line (endLine items whole) Mark.End
 atStep items (Step.Cut at) = line (endLine items (cut at)) Mark.End
 
@@ -56,6 +56,6 @@ abbrev pub firstMark : List ℕ → Mark
 firstMark input = cond (leb (length input) 4096) Mark.Frame Mark.TooLong
 
 -- the lines that a caller is given who goes on from a mark until there are none
-pub data Gives (frame : List ℕ) : Mark → List (List ℕ) → Type 0 where
-  done : {m : Mark} → standsAt frame m ≡ nothing → Gives frame m []
-  more : {m next : Mark} {l : List ℕ} {rest : List (List ℕ)} → standsAt frame m ≡ line l next → Gives frame next rest → Gives frame m (l ∷ rest)
+pub data GivesLines (frame : List ℕ) : Mark → List (List ℕ) → Type 0 where
+  done : {m : Mark} → standsAt frame m ≡ nothing → GivesLines frame m []
+  more : {m next : Mark} {l : List ℕ} {rest : List (List ℕ)} → standsAt frame m ≡ line l next → GivesLines frame next rest → GivesLines frame m (l ∷ rest)

@@ -8,7 +8,7 @@ use Rattle.report.specs.declared.marks.Line.{Line}
 use Rattle.report.specs.Marks.{Stand, line, nothing}
 
 -- some bytes that were put at a place and had room there
-pub record Laid (s : List ℕ) (at : ℕ) (bytes : List ℕ) (next : ℕ) (after : List ℕ) : Type 0 where
+pub record PutWithRoom (s : List ℕ) (at : ℕ) (bytes : List ℕ) (next : ℕ) (after : List ℕ) : Type 0 where
   pub put : Put s at bytes next after
   pub room : at + length bytes ≤ length s
 

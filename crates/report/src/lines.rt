@@ -6,7 +6,7 @@ ghost use lib.ListN.{length};
 ghost use Rattle.action_frame.specs.Said.{saidDelta};
 ghost use Rattle.report.specs.Text.{text, decimal, named};
 ghost use Rattle.report.specs.Lines.{deltaWords, headerLine};
-ghost use Rattle.report.specs.Shown.{Laid};
+ghost use Rattle.report.specs.Shown.{PutWithRoom};
 use crate::text::put_named;
 use crate::text::put_word;
 use action_frame::AWDLActionFrame;
@@ -42,7 +42,7 @@ pub(crate) fn of_usize(x: usize) -> u64
 pub(crate) fn one_number(out: &mut [u8], word: &[u8], n: u64) -> usize
     requires { ⌜ 128 ≤ length (now out) ⌝ }
     requires { ⌜ length (now word) ≤ 20 ⌝ }
-    ensures { λ r. ⌜ Laid (now (out .entry)) 0 (now (word .entry) ++ decimal n ++ text "\n") r (now (out .exit)) ⌝ }
+    ensures { λ r. ⌜ PutWithRoom (now (out .entry)) 0 (now (word .entry) ++ decimal n ++ text "\n") r (now (out .exit)) ⌝ }
 {
     let a = put_named(out, 0, word, n);
     put_word(out, a, b"\n")
@@ -52,7 +52,7 @@ pub(crate) fn one_number(out: &mut [u8], word: &[u8], n: u64) -> usize
 pub(crate) fn two_numbers(out: &mut [u8], first: &[u8], m: u64, second: &[u8], n: u64) -> usize
     requires { ⌜ 128 ≤ length (now out) ⌝ }
     requires { ⌜ length (now first) + length (now second) ≤ 40 ⌝ }
-    ensures { λ r. ⌜ Laid (now (out .entry)) 0 (now (first .entry) ++ decimal m ++ (now (second .entry) ++ decimal n) ++ text "\n") r (now (out .exit)) ⌝ }
+    ensures { λ r. ⌜ PutWithRoom (now (out .entry)) 0 (now (first .entry) ++ decimal m ++ (now (second .entry) ++ decimal n) ++ text "\n") r (now (out .exit)) ⌝ }
 {
     let a = put_named(out, 0, first, m);
     let b = put_named(out, a, second, n);
@@ -61,7 +61,7 @@ pub(crate) fn two_numbers(out: &mut [u8], first: &[u8], m: u64, second: &[u8], n
 
 fn put_delta(out: &mut [u8], at: usize, d: Delta) -> usize
     requires { ⌜ at + 27 ≤ length (now out) ⌝ }
-    ensures { λ r. ⌜ Laid (now (out .entry)) at (deltaWords (saidDelta d)) r (now (out .exit)) ⌝ }
+    ensures { λ r. ⌜ PutWithRoom (now (out .entry)) at (deltaWords (saidDelta d)) r (now (out .exit)) ⌝ }
     ensures { λ r. ⌜ r ≤ at + 27 ⌝ }
 {
     match d {
@@ -72,7 +72,7 @@ fn put_delta(out: &mut [u8], at: usize, d: Delta) -> usize
 
 pub(crate) fn header(out: &mut [u8], f: AWDLActionFrame) -> usize
     requires { ⌜ 128 ≤ length (now out) ⌝ }
-    ensures { λ r. ⌜ Laid (now (out .entry)) 0 (headerLine f) r (now (out .exit)) ⌝ }
+    ensures { λ r. ⌜ PutWithRoom (now (out .entry)) 0 (headerLine f) r (now (out .exit)) ⌝ }
 {
     let phy = f.phy_tx_time;
     let target = f.target_tx_time;
@@ -86,7 +86,7 @@ pub(crate) fn header(out: &mut [u8], f: AWDLActionFrame) -> usize
 // The place is counted from the start of the frame.
 pub(crate) fn item(out: &mut [u8], place: u64, tlv_type: u64, len: u64) -> usize
     requires { ⌜ 128 ≤ length (now out) ⌝ }
-    ensures { λ r. ⌜ Laid (now (out .entry)) 0 (named "item at=" place ++ named " type=" «tlv_type» ++ named " length=" len ++ text "\n") r (now (out .exit)) ⌝ }
+    ensures { λ r. ⌜ PutWithRoom (now (out .entry)) 0 (named "item at=" place ++ named " type=" «tlv_type» ++ named " length=" len ++ text "\n") r (now (out .exit)) ⌝ }
 {
     let a = put_named(out, 0, b"item at=", place);
     let b = put_named(out, a, b" type=", tlv_type);

@@ -5,8 +5,8 @@ ghost use Rattle.data_path_state.specs.DataPath.{dataPath};
 ghost use Rattle.synchronization_parameters.specs.SynchronizationReader as Sync;
 ghost use Rattle.action_frame.specs.Frames as Frames;
 ghost use Rattle.report.specs.Lines as Lines;
-ghost use Rattle.report.specs.Marks.{firstMark, atHeader, behindItem, atPlace, standsAt};
-ghost use Rattle.report.specs.Shown.{Laid, Shows};
+ghost use Rattle.report.specs.Marks.{firstMark, atHeader, markBehind, atPlace, standsAt};
+ghost use Rattle.report.specs.Shown.{PutWithRoom, Shows};
 use crate::lines;
 use crate::text::put_word;
 use action_frame::AWDLActionFrame;
@@ -66,7 +66,7 @@ fn frame_line(frame: &[u8], out: &mut [u8]) -> Line
 
 fn data_path_line(value: &[u8], out: &mut [u8]) -> usize
     requires { ⌜ 128 ≤ length (now out) ⌝ }
-    ensures { λ r. ⌜ Laid (now (out .entry)) 0 (Lines.dataLine (dataPath (now (value .entry)) 0)) r (now (out .exit)) ⌝ }
+    ensures { λ r. ⌜ PutWithRoom (now (out .entry)) 0 (Lines.dataLine (dataPath (now (value .entry)) 0)) r (now (out .exit)) ⌝ }
 {
     match DataPathStateTLV::read(value) {
         ReadDataPathState::Read(record, size) => {
@@ -83,7 +83,7 @@ fn data_path_line(value: &[u8], out: &mut [u8]) -> usize
 
 fn synchronization_line(value: &[u8], out: &mut [u8]) -> usize
     requires { ⌜ 128 ≤ length (now out) ⌝ }
-    ensures { λ r. ⌜ Laid (now (out .entry)) 0 (Lines.syncLine (Sync.synchronization (now (value .entry)) 0)) r (now (out .exit)) ⌝ }
+    ensures { λ r. ⌜ PutWithRoom (now (out .entry)) 0 (Lines.syncLine (Sync.synchronization (now (value .entry)) 0)) r (now (out .exit)) ⌝ }
 {
     let read = SynchronizationParametersTLV::read(value);
     let answer = read.answer;
@@ -101,7 +101,7 @@ fn synchronization_line(value: &[u8], out: &mut [u8]) -> usize
 }
 
 fn behind(item: Item, next: usize, items: usize) -> Mark
-    ensures { λ r. ⌜ r ≡ behindItem item next items ⌝ }
+    ensures { λ r. ⌜ r ≡ markBehind item next items ⌝ }
 {
     if item.tlv_type == DataPathStateTLV::TLV_TYPE {
         return Mark::DataPath(item, next, items);

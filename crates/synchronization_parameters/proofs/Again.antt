@@ -15,7 +15,7 @@ use Rattle.synchronization_parameters.specs.declared.synchronization_par
 use Rattle.synchronization_parameters.specs.SynchronizationReader.{synchronization}
 use Rattle.synchronization_parameters.specs.SynchronizationBytes.{bytesOf}
 use Rattle.synchronization_parameters.specs.Rewritten.{rewritten}
-use Rattle.synchronization_parameters.proofs.Whole.{fieldsOf, inside, whole, short}
+use Rattle.synchronization_parameters.proofs.Whole.{fieldsOf, inside, all-fields, short}
 
 byte : (b : ℕ) → b < 256 → b % 256 ≡ b
 byte b h = omega arith
@@ -40,7 +40,7 @@ pub written-again : (s : List ℕ) → ((i : ℕ) → getD s i 0 < 256) → {p :
 written-again s small {p} {size} e =
     dite (decLe 33 (length s))
     (λ here.
-    let same : fieldsOf s ≡ p = let w = whole s here in cc in
-    let all : 33 ≡ size = let w = whole s here in cc in
+    let same : fieldsOf s ≡ p = let w = all-fields s here in cc in
+    let all : 33 ≡ size = let w = all-fields s here in cc in
     rw (← same, ← all) (again s small here))
     (λ past. absurd (never (sym (short s (omega arith)) ∙ e)))

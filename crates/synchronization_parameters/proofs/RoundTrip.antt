@@ -11,7 +11,7 @@ use lib.Seq.{drop-append-seam}
 use borrow.Author.Tests.{le-leb}
 use Rattle.wire.specs.Reading.{Reader, read, _>>=_}
 use Rattle.wire.specs.Answer.{answer}
-use Rattle.wire.specs.Numbers.{Fits, one, littleBytes}
+use Rattle.wire.specs.Numbers.{AllInWidth, one, littleBytes}
 use Rattle.wire.specs.Writing.{within, lengthOf, afterwards}
 use Rattle.wire.proofs.ReadsBack.{Back, bind-back, made-back, field-back, number-on, number-last, address-on}
 use Rattle.synchronization_parameters.specs.declared.synchronization_parameters_tlv.SynchronizationParametersTLV.{SynchronizationParametersTLV}
@@ -29,10 +29,10 @@ mode-back mode h =
     subst (λ (m : ℕ). Back presenceMode bytes m) small (made-back (λ b. getD b 0 0) (field-back 2 bytes refl))
 
 mode-on : {B : Type 0} (f : ℕ → Reader B) {mode : ℕ} {others : List (ℕ × ℕ)} {bytes : List ℕ} {b : B}
-    → (Fits others → Back (f mode) bytes b) → Fits ((1, mode) ∷ others) → Back (presenceMode >>= f) (littleBytes 1 mode ++ (0 ∷ []) ++ bytes) b
+    → (AllInWidth others → Back (f mode) bytes b) → AllInWidth ((1, mode) ∷ others) → Back (presenceMode >>= f) (littleBytes 1 mode ++ (0 ∷ []) ++ bytes) b
 mode-on f goes (one h rest) = bind-back f (mode-back _ h) (goes rest)
 
-pub synchronization-back : (p : SynchronizationParametersTLV) → Fits (numbers p) → Back synchronization (bytesOf p) p
+pub synchronization-back : (p : SynchronizationParametersTLV) → AllInWidth (numbers p) → Back synchronization (bytesOf p) p
 unfolding synchronization bytesOf
 synchronization-back p =
     number-on 1 _ (number-on 2 _ (number-on 1 _ (number-on 1 _
@@ -42,7 +42,7 @@ synchronization-back p =
     (address-on _ (p .«master_address») (mode-on _ (number-on 2 _ (number-last 2 _)))))))))))))))))
 
 -- a record that is written into enough room reads back as itself, and what stood behind its 33 bytes still stands there
-pub written-back : (p : SynchronizationParametersTLV) → Fits (numbers p) → (s : List ℕ) → 33 ≤ length s
+pub written-back : (p : SynchronizationParametersTLV) → AllInWidth (numbers p) → (s : List ℕ) → 33 ≤ length s
     → let after : List ℕ = afterwards s (answer (bytesOf p)) (within (length s) (lengthOf (answer (bytesOf p)))) in
     (synchronization after 0 ≡ read p 33) × (drop 33 after ≡ drop 33 s)
 written-back p f s h =

@@ -18,7 +18,7 @@ use Rattle.wire.specs.Answer.{answer, placeOf}
 use Rattle.wire.specs.Numbers.{little}
 use Rattle.wire.proofs.Bytes.{from, opened}
 use Rattle.wire.proofs.Lawful.{Lawful, cut-short}
-use Rattle.wire.proofs.Fixed.{Fixed, give-fixed, field-fixed, bind-fixed, number-fixed, address-fixed}
+use Rattle.wire.proofs.Fixed.{FixedWidths, give-fixed, field-fixed, bind-fixed, number-fixed, address-fixed}
 use Rattle.synchronization_parameters.specs.declared.synchronization_parameters_tlv.SynchronizationParametersTLV.{SynchronizationParametersTLV}
 use Rattle.synchronization_parameters.specs.SynchronizationReader.{synchronization}
 
@@ -56,9 +56,9 @@ fieldsOf s =
 pub inside : (s : List ℕ) → 33 ≤ length s → (k : ℕ) → leb k 33 ≡ true → leb k (length s) ≡ true
 inside s h k e = le-leb k (length s) (omega (arith, leb-true k 33 e))
 
-pub whole : (s : List ℕ) → 33 ≤ length s → synchronization s 0 ≡ read (fieldsOf s) 33
+pub all-fields : (s : List ℕ) → 33 ≤ length s → synchronization s 0 ≡ read (fieldsOf s) 33
 unfolding synchronization
-whole s h =
+all-fields s h =
     let bytes : List ℕ = from s 0 0 33 ++ drop 33 s in
     let enough : 33 ≤ length bytes = omega arith in
     subst (λ (l : List ℕ). synchronization l 0 ≡ read (fieldsOf l) 33) (opened 33 s h) (simp (inside bytes enough, add-zero))
@@ -67,7 +67,7 @@ whole s h =
 abbrev pub widths : List ℕ
 widths = 1 ∷ 2 ∷ 1 ∷ 1 ∷ 2 ∷ 2 ∷ 2 ∷ 2 ∷ 2 ∷ 2 ∷ 1 ∷ 1 ∷ 1 ∷ 1 ∷ 6 ∷ 2 ∷ 2 ∷ 2 ∷ []
 
-pub synchronization-fixed : Fixed synchronization widths
+pub synchronization-fixed : FixedWidths synchronization widths
 unfolding synchronization
 synchronization-fixed =
     bind-fixed (number-fixed 1) λ _. bind-fixed (number-fixed 2) λ _. bind-fixed (number-fixed 1) λ _. bind-fixed (number-fixed 1) λ _.
@@ -84,11 +84,11 @@ pub short : (s : List ℕ) → length s < 33 → synchronization s 0 ≡ refused
 short s h =
     let more : List ℕ = replicate 33 0 in
     rw (take-append-seam s more) at
-    (cut-short synchronization-lawful (s ++ more) (whole (s ++ more) (simp length-append (omega arith))) h)
+    (cut-short synchronization-lawful (s ++ more) (all-fields (s ++ more) (simp length-append (omega arith))) h)
 
 -- a place that was given is the one behind 33 bytes
 pub taken : (s : List ℕ) {size : ℕ} → answer size ≡ placeOf (synchronization s 0) → (size ≡ 33) × (33 ≤ length s)
 taken s {size} e =
     dite (decLe 33 (length s))
-    (λ inside. let e′ = rw (whole s inside) at e in ((cc), inside))
+    (λ inside. let e′ = rw (all-fields s inside) at e in ((cc), inside))
     (λ past. let e′ = rw (short s (omega arith)) at e in let z : _≡_ {A = ℕ} 0 1 = cc in absurd (omega arith))

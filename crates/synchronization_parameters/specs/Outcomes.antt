@@ -6,9 +6,9 @@ use Rattle.synchronization_parameters.specs.declared.synchronization_par
 use Rattle.synchronization_parameters.specs.declared.synchronization_parameters_tlv.ReadSynchronization.{ReadSynchronization}
 use Rattle.synchronization_parameters.specs.SynchronizationReader.{zeroSynchronization}
 
-abbrev pub sized : Size → SynchronizationParametersTLV → Reading SynchronizationParametersTLV
-sized (Size.Bytes size) p = read p size
-sized (Size.Refused why) p = refused why
+abbrev pub synchronizationOf : Size → SynchronizationParametersTLV → Reading SynchronizationParametersTLV
+synchronizationOf (Size.Bytes size) p = read p size
+synchronizationOf (Size.Refused why) p = refused why
 
 abbrev pub outcomeSynchronization : ReadSynchronization → Outcome SynchronizationParametersTLV
-outcomeSynchronization r = outcome zeroSynchronization 0 (sized (r .answer) (r .parameters))
+outcomeSynchronization r = outcome zeroSynchronization 0 (synchronizationOf (r .answer) (r .parameters))

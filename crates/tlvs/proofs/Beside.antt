@@ -7,15 +7,15 @@ use Rattle.wire.proofs.Once.{beside}
 use Rattle.synchronization_parameters.specs.declared.synchronization_parameters_tlv.SynchronizationParametersTLV.{SynchronizationParametersTLV}
 use Rattle.synchronization_parameters.specs.declared.synchronization_parameters_tlv.ReadSynchronization.{ReadSynchronization}
 use Rattle.synchronization_parameters.specs.Said.{synchronizationRead}
-use Rattle.synchronization_parameters.specs.Outcomes.{sized}
+use Rattle.synchronization_parameters.specs.Outcomes.{synchronizationOf}
 use Rattle.tlvs.specs.declared.search.Found.{Found}
 use Rattle.tlvs.specs.declared.search.FoundSynchronization.{FoundSynchronization}
 use Rattle.tlvs.specs.Search.{Search, found, nothing}
 use Rattle.tlvs.specs.Said.{synchronizationFound}
 
 pub read-beside : (m : Reading SynchronizationParametersTLV) {r : ReadSynchronization} {answer : Size} → r ≡ synchronizationRead m → r .answer ≡ answer
-    → m ≡ sized answer (r .parameters)
-read-beside = beside synchronizationRead (λ r. r .answer) (λ r. r .parameters) sized (elim [ read p size ↦ refl | refused why ↦ refl ])
+    → m ≡ synchronizationOf answer (r .parameters)
+read-beside = beside synchronizationRead (λ r. r .answer) (λ r. r .parameters) synchronizationOf (elim [ read p size ↦ refl | refused why ↦ refl ])
 
 abbrev placed : Found → SynchronizationParametersTLV → Search SynchronizationParametersTLV
 placed (Found.At it next) p = found p it next

@@ -16,7 +16,7 @@ use Rattle.wire.proofs.ReadsBack.{Back, bind-back, made-back, number-back, fiel
 use Rattle.tlvs.specs.declared.item.Item.{Item}
 use Rattle.tlvs.specs.declared.item.Step.{Step}
 use Rattle.tlvs.specs.Items.{item, stepAt, valueOf}
-use Rattle.tlvs.specs.ItemBytes.{laidOut, itemBytes}
+use Rattle.tlvs.specs.ItemBytes.{typeLengthValue, itemBytes}
 use Rattle.tlvs.specs.Walk.{whole, walkAt}
 use Rattle.tlvs.specs.Sent.{Sent, Sendable, AllSendable, tailWith, sent}
 use Rattle.tlvs.proofs.Sizes.{sized-bytes}
@@ -24,7 +24,7 @@ use Rattle.tlvs.proofs.Plain.{used-up}
 use Rattle.tlvs.proofs.Walks.{walk-goes}
 
 abbrev pub bytesOf : Sent → List ℕ
-bytesOf w = laidOut (w .type) (w .value)
+bytesOf w = typeLengthValue (w .type) (w .value)
 
 -- the item that it is at a place
 abbrev pub itemAt : ℕ → Sent → Item
@@ -93,5 +93,5 @@ walk-back before (w ∷ ws) ok s e =
     }
 
 -- the walk of a tail that was written
-pub laid-back : (ws : List Sent) → AllSendable ws → GivesBack (tailWith ws) 0 ws
-laid-back ws ok = walk-back [] ws ok (tailWith ws) refl
+pub tail-back : (ws : List Sent) → AllSendable ws → GivesBack (tailWith ws) 0 ws
+tail-back ws ok = walk-back [] ws ok (tailWith ws) refl

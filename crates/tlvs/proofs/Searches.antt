@@ -15,7 +15,7 @@ use Rattle.tlvs.specs.declared.item.Item.{Item}
 use Rattle.tlvs.specs.declared.item.Step.{Step}
 use Rattle.tlvs.specs.Items.{stepAt, valueOf}
 use Rattle.tlvs.specs.Walk.{Walk}
-use Rattle.tlvs.specs.Search.{Accepted, kept, matched, accepted, allFrom, allOf, Search, found, nothing, behind, firstOf, nextFrom}
+use Rattle.tlvs.specs.Search.{Match, kept, matched, accepted, allFrom, allOf, Search, found, nothing, behindItem, firstOf, nextFrom}
 use Rattle.tlvs.proofs.item.Step as S
 use Rattle.tlvs.proofs.Steps.{step-stands}
 use Rattle.tlvs.proofs.Walks.{walk-goes}
@@ -25,12 +25,12 @@ abbrev pub orElse : {A : Type 0} → Search A → Search A → Search A
 orElse (found a it next) later = found a it next
 orElse nothing later = later
 
-first-append : {A : Type 0} (xs ys : List (Accepted A)) → firstOf (xs ++ ys) ≡ orElse (firstOf xs) (firstOf ys)
+first-append : {A : Type 0} (xs ys : List (Match A)) → firstOf (xs ++ ys) ≡ orElse (firstOf xs) (firstOf ys)
 first-append [] ys = refl
 first-append (x ∷ xs) ys = refl
 
 -- what a step found, told by its case: the next place is behind the item, and fewer bytes are left from there
-pub step-behind : (s : List ℕ) (at : ℕ) {f : Step} {it : Item} {next : ℕ} → f ≡ stepAt s at → f ≡ Step.Item it next → next ≡ behind it
+pub step-behind : (s : List ℕ) (at : ℕ) {f : Step} {it : Item} {next : ℕ} → f ≡ stepAt s at → f ≡ Step.Item it next → next ≡ behindItem it
 step-behind s at p q = let w = step-stands s at (sym p ∙ q) in omega arith
 
 pub step-less : (s : List ℕ) (at : ℕ) {f : Step} {it : Item} {next : ℕ} → f ≡ stepAt s at → f ≡ Step.Item it next → length s - next < length s - at
@@ -41,7 +41,7 @@ abbrev pub Last : Step → Type 0
 Last last = OneOf (1 ∷ 2 ∷ []) (tagOf S.the-type last)
 
 -- one item gives no record, or its own
-data One {A : Type 0} (it : Item) : List (Accepted A) → Type 0 where
+data One {A : Type 0} (it : Item) : List (Match A) → Type 0 where
   passed : One it []
   took : (a : A) → One it (record { content = a; item = it } ∷ [])
 
@@ -52,11 +52,11 @@ pub record Finds {A : Type 0} (n : ℕ) (r : Reader A) (s : List ℕ) (at : ℕ)
   pub all : allFrom n r s at ≡ record { content = a; item = it } ∷ allFrom n r s next
 
 -- what a caller has who takes each record that it is given and asks again from the place behind it, so many times at most
-abbrev pub takes : {A : Type 0} → Search A → (ℕ → List (Accepted A)) → List (Accepted A)
+abbrev pub takes : {A : Type 0} → Search A → (ℕ → List (Match A)) → List (Match A)
 takes (found a it next) rest = record { content = a; item = it } ∷ rest next
 takes nothing rest = []
 
-abbrev pub goingOn : {A : Type 0} → ℕ → (ℕ → Search A) → ℕ → List (Accepted A)
+abbrev pub goingOn : {A : Type 0} → ℕ → (ℕ → Search A) → ℕ → List (Match A)
 goingOn zero search at = []
 goingOn (suc calls) search at = takes (search at) (goingOn calls search)
 
@@ -103,12 +103,12 @@ module _ {A : Type 0} (n : ℕ) (r : Reader A) (s : List ℕ) where
   all-nothing : (at : ℕ) → nextFrom n r s at ≡ nothing → allFrom n r s at ≡ []
   all-nothing at = go (allFrom n r s at)
     where
-      go : (xs : List (Accepted A)) → firstOf xs ≡ nothing → xs ≡ []
+      go : (xs : List (Match A)) → firstOf xs ≡ nothing → xs ≡ []
       go [] e = refl
       go (x ∷ xs) e = absurd (let z : _≡_ {A = ℕ} 0 1 = cc in omega arith)
 
   module _ (at : ℕ) {a : A} {it : Item} {next : ℕ} (e : nextFrom n r s at ≡ found a it next) where
-    here-or-behind : {it′ : Item} {next′ : ℕ} {xs : List (Accepted A)} → stepAt s at ≡ Step.Item it′ next′ → One it′ xs → matched n r s it′ ≡ xs
+    here-or-behind : {it′ : Item} {next′ : ℕ} {xs : List (Match A)} → stepAt s at ≡ Step.Item it′ next′ → One it′ xs → matched n r s it′ ≡ xs
         → (nextFrom n r s next′ ≡ found a it next → Finds n r s next′ a it next) → Finds n r s at a it next
     here-or-behind q passed x more =
         let w = step-stands s at q in
@@ -116,7 +116,7 @@ module _ {A : Type 0} (n : ℕ) (r : Reader A) (s : List ℕ) where
         record { ahead = omega arith; inside = rest .inside; all = all-item at q ∙ rw x (rest .all) }
     here-or-behind {it′} {next′} q (took b) x more =
         let w = step-stands s at q in
-        let e′ : found b it′ (behind it′) ≡ found a it next = sym (search-item at q (ap firstOf x)) ∙ e in
+        let e′ : found b it′ (behindItem it′) ≡ found a it next = sym (search-item at q (ap firstOf x)) ∙ e in
         let same : b ≡ a = cc in
         let item : it′ ≡ it = cc in
         let place : next′ ≡ next = step-behind s at refl q ∙ cc in
@@ -137,7 +137,7 @@ module _ {A : Type 0} (n : ℕ) (r : Reader A) (s : List ℕ) where
   pub finds : (at : ℕ) {a : A} {it : Item} {next : ℕ} → nextFrom n r s at ≡ found a it next → Finds n r s at a it next
   finds at e = finds-from (suc (length s - at)) at (omega arith) e
 
-  through : (at : ℕ) (f : Search A) (rest : ℕ → List (Accepted A)) → nextFrom n r s at ≡ f
+  through : (at : ℕ) (f : Search A) (rest : ℕ → List (Match A)) → nextFrom n r s at ≡ f
       → ((next : ℕ) → at < next → next ≤ length s → rest next ≡ allFrom n r s next) → takes f rest ≡ allFrom n r s at
   through at (found a it next) rest e more = let w = finds at e in rw (more next (w .ahead) (w .inside)) (sym (w .all))
   through at nothing rest e more = sym (all-nothing at e)

@@ -8,7 +8,7 @@ use lib.ListN.{length}
 use Rattle.tlvs.specs.declared.item.Item.{Item}
 use Rattle.tlvs.specs.declared.item.Step.{Step}
 use Rattle.tlvs.specs.Items.{stepAt}
-use Rattle.tlvs.specs.Walk.{Ending, whole, cut, Walk, goOn, walkFrom, walkAt, walk, reportOf}
+use Rattle.tlvs.specs.Walk.{Ending, whole, cut, Walk, goOn, walkFrom, walkAt, walk, endReport}
 use Rattle.tlvs.proofs.Steps.{step-stands, step-whole, step-cut}
 
 -- two ways to go on from a step that agree behind an item agree
@@ -46,21 +46,21 @@ ends-at s at whole e = walk-goes s at e
 ends-at s at (cut place) e = walk-goes s at e
 
 -- what was counted up to a place and what the walk still gives are together what it gives from the start
-pub record Counted (s : List ℕ) (at n : ℕ) : Type 0 where
+pub record CountedTo (s : List ℕ) (at n : ℕ) : Type 0 where
   pub count : n + length (walkAt s at .items) ≡ length (walk s .items)
   pub ending : walkAt s at .ending ≡ walk s .ending
 
-pub counted-none : (s : List ℕ) → Counted s 0 0
+pub counted-none : (s : List ℕ) → CountedTo s 0 0
 counted-none s = record { count = omega arith; ending = refl }
 
-pub counted-item : {s : List ℕ} {at n : ℕ} {it : Item} {next : ℕ} → Counted s at n → stepAt s at ≡ Step.Item it next → Counted s next (n + 1)
+pub counted-item : {s : List ℕ} {at n : ℕ} {it : Item} {next : ℕ} → CountedTo s at n → stepAt s at ≡ Step.Item it next → CountedTo s next (n + 1)
 counted-item {s} {at} w e =
     let goes = walk-goes s at e in
     let more = ap (λ (w : Walk). length (w .items)) goes in
     record { count = omega arith; ending = sym (ap (λ (w : Walk). w .ending) goes) ∙ w .ending }
 
-pub counted-all : {s : List ℕ} {at n : ℕ} (last : Ending) → Counted s at n → stepAt s at ≡ lastStep last
-    → record { count = n; ending = last } ≡ reportOf (walk s)
+pub counted-all : {s : List ℕ} {at n : ℕ} (last : Ending) → CountedTo s at n → stepAt s at ≡ lastStep last
+    → record { count = n; ending = last } ≡ endReport (walk s)
 counted-all {s} {at} {n} last w e =
     let ends = ends-at s at last e in
     let none = ap (λ (w : Walk). length (w .items)) ends in
@@ -78,13 +78,13 @@ Follows at [] to = at ≡ to
 Follows at (it ∷ rest) to = (it .at ≡ at) × Follows (at + 3 + it .length) rest to
 
 -- a walk's items follow each other up to its end, which lies within the tail, and what a step finds there is that end
-pub record Runs (s : List ℕ) (at : ℕ) (w : Walk) : Type 0 where
+pub record WalkRuns (s : List ℕ) (at : ℕ) (w : Walk) : Type 0 where
   pub follows : Follows at (w .items) (stop s (w .ending))
   pub inside : stop s (w .ending) ≤ length s
   pub ends : stepAt s (stop s (w .ending)) ≡ lastStep (w .ending)
 
 run : (s : List ℕ) (at : ℕ) (found : Step) (rest : ℕ → Walk) → at ≤ length s → stepAt s at ≡ found
-    → ((it : Item) (next : ℕ) → stepAt s at ≡ Step.Item it next → Runs s next (rest next)) → Runs s at (goOn found rest)
+    → ((it : Item) (next : ℕ) → stepAt s at ≡ Step.Item it next → WalkRuns s next (rest next)) → WalkRuns s at (goOn found rest)
 run s at (Step.Item it next) rest h e more =
     let w = step-stands s at e in
     let r = more it next e in
@@ -96,12 +96,12 @@ run s at (Step.Cut place) rest h e more =
     let here = step-cut s at e in
     record { follows = sym here; inside = omega arith; ends = ap (stepAt s) here ∙ e }
 
-runs : (m : ℕ) (s : List ℕ) (at : ℕ) → at ≤ length s → length s - at < m → Runs s at (walkFrom m s at)
+runs : (m : ℕ) (s : List ℕ) (at : ℕ) → at ≤ length s → length s - at < m → WalkRuns s at (walkFrom m s at)
 unfolding walkFrom
 runs zero s at h k = absurd (omega arith)
 runs (suc m) s at h k =
     run s at (stepAt s at) (walkFrom m s) h refl
     (λ it next e. let w = step-stands s at e in runs m s next (omega arith) (omega arith))
 
-pub walk-runs : (s : List ℕ) (at : ℕ) → at ≤ length s → Runs s at (walkAt s at)
+pub walk-runs : (s : List ℕ) (at : ℕ) → at ≤ length s → WalkRuns s at (walkAt s at)
 walk-runs s at h = runs (suc (length s - at)) s at h (omega arith)

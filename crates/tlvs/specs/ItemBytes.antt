@@ -8,8 +8,8 @@ use Rattle.wire.specs.Answer.{Answer, answer, require, _>>=_, _>>_}
 use Rattle.wire.specs.Numbers.{littleBytes}
 
 -- type, length and value
-abbrev pub laidOut : ℕ → List ℕ → List ℕ
-laidOut type value = littleBytes 1 type ++ littleBytes 2 (length value) ++ value
+abbrev pub typeLengthValue : ℕ → List ℕ → List ℕ
+typeLengthValue type value = littleBytes 1 type ++ littleBytes 2 (length value) ++ value
 
 -- the size of an item whose value has some bytes; more than its length can say are refused
 abbrev pub itemSize : ℕ → Answer ℕ
@@ -20,4 +20,4 @@ itemSize bytes = do
 abbrev pub itemBytes : ℕ → List ℕ → Answer (List ℕ)
 itemBytes type value = do
   _ ← itemSize (length value)
-  answer (laidOut type value)
+  answer (typeLengthValue type value)

@@ -6,10 +6,10 @@ use Rattle.tlvs.specs.declared.item.End.{End}
 use Rattle.tlvs.specs.declared.search.Found.{Found}
 use Rattle.tlvs.specs.declared.search.FoundDataPath.{FoundDataPath}
 use Rattle.tlvs.specs.declared.search.FoundSynchronization.{FoundSynchronization}
-use Rattle.tlvs.specs.Walk.{Report, whole, cut}
+use Rattle.tlvs.specs.Walk.{EndReport, whole, cut}
 use Rattle.tlvs.specs.Search.{Search, found, nothing}
 
-abbrev pub saidEnd : End → Report
+abbrev pub saidEnd : End → EndReport
 saidEnd (End.Whole items) = record { count = items; ending = whole }
 saidEnd (End.Cut at items) = record { count = items; ending = cut at }
 

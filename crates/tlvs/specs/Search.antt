@@ -13,30 +13,30 @@ use Rattle.tlvs.specs.Items.{valueOf}
 use Rattle.tlvs.specs.Walk.{walkAt}
 
 -- a record that its reader accepted, and the item in whose value it stands
-pub record Accepted (A : Type 0) : Type 0 where
+pub record Match (A : Type 0) : Type 0 where
   pub content : A
   pub item : Item
 
 -- what a reader's finding makes of an item: one record, or none where the value is refused
-abbrev pub kept : {A : Type 0} → Item → Reading A → List (Accepted A)
+abbrev pub kept : {A : Type 0} → Item → Reading A → List (Match A)
 kept it (read a size) = record { content = a; item = it } ∷ []
 kept it (refused why) = []
 
 -- one item: passed over where it is of another type, and where its value is refused. Bytes behind the record are ignored.
-unfoldable pub matched : {A : Type 0} → ℕ → Reader A → List ℕ → Item → List (Accepted A)
+unfoldable pub matched : {A : Type 0} → ℕ → Reader A → List ℕ → Item → List (Match A)
 matched type reader tail it = cond (eqb (it .«tlv_type») type) (kept it (reader (valueOf tail it) 0)) []
 
 -- some items, in their order
-abbrev pub accepted : {A : Type 0} → ℕ → Reader A → List ℕ → List Item → List (Accepted A)
+abbrev pub accepted : {A : Type 0} → ℕ → Reader A → List ℕ → List Item → List (Match A)
 accepted type reader tail [] = []
 accepted type reader tail (it ∷ rest) = matched type reader tail it ++ accepted type reader tail rest
 
 -- all that the walk from a place meets, up to its end, whole or cut
-unfoldable pub allFrom : {A : Type 0} → ℕ → Reader A → List ℕ → ℕ → List (Accepted A)
+unfoldable pub allFrom : {A : Type 0} → ℕ → Reader A → List ℕ → ℕ → List (Match A)
 allFrom type reader tail at = accepted type reader tail (walkAt tail at .items)
 
 -- all of a tail
-abbrev pub allOf : {A : Type 0} → ℕ → Reader A → List ℕ → List (Accepted A)
+abbrev pub allOf : {A : Type 0} → ℕ → Reader A → List ℕ → List (Match A)
 allOf type reader tail = allFrom type reader tail 0
 
 -- what a search finds: a record, its item and the place behind it, from which one goes on; or no such item
@@ -44,12 +44,12 @@ pub data Search (A : Type 0) : Type 0 where
   found : A → Item → ℕ → Search A
   nothing : Search A
 
-abbrev pub behind : Item → ℕ
-behind it = it .at + 3 + it .length
+abbrev pub behindItem : Item → ℕ
+behindItem it = it .at + 3 + it .length
 
-abbrev pub firstOf : {A : Type 0} → List (Accepted A) → Search A
+abbrev pub firstOf : {A : Type 0} → List (Match A) → Search A
 firstOf [] = nothing
-firstOf (a ∷ rest) = found (a .content) (a .item) (behind (a .item))
+firstOf (a ∷ rest) = found (a .content) (a .item) (behindItem (a .item))
 
 abbrev pub nextFrom : {A : Type 0} → ℕ → Reader A → List ℕ → ℕ → Search A
 nextFrom type reader tail at = firstOf (allFrom type reader tail at)

@@ -4,7 +4,7 @@ use mathlib.Core.List.{List, [], _∷_, _++_, map}
 use lib.ListN.{length}
 use Rattle.tlvs.specs.declared.item.Item.{Item}
 use Rattle.tlvs.specs.Items.{valueOf}
-use Rattle.tlvs.specs.ItemBytes.{laidOut}
+use Rattle.tlvs.specs.ItemBytes.{typeLengthValue}
 use Rattle.tlvs.specs.Walk.{walk}
 
 pub record Sent : Type 0 where
@@ -23,7 +23,7 @@ AllSendable (it ∷ rest) = Sendable it × AllSendable rest
 -- the tail that items write, one behind the other
 abbrev pub tailWith : List Sent → List ℕ
 tailWith [] = []
-tailWith (it ∷ rest) = laidOut (it .type) (it .value) ++ tailWith rest
+tailWith (it ∷ rest) = typeLengthValue (it .type) (it .value) ++ tailWith rest
 
 -- the items that the walk of a tail gives
 abbrev pub sent : List ℕ → Item → Sent

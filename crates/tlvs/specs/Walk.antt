@@ -34,9 +34,9 @@ abbrev pub walk : List ℕ → Walk
 walk tail = walkAt tail 0
 
 -- the end report: how many items the walk's list has, and how the walk ends
-pub record Report : Type 0 where
+pub record EndReport : Type 0 where
   pub count : ℕ
   pub ending : Ending
 
-abbrev pub reportOf : Walk → Report
-reportOf w = record { count = length (w .items); ending = w .ending }
+abbrev pub endReport : Walk → EndReport
+endReport w = record { count = length (w .items); ending = w .ending }

@@ -33,7 +33,7 @@ pub struct FoundSynchronization {
 
 // One item, with the place behind it. Nothing where it is of another type or its value is refused.
 fn match_and_parse_data_path(tail: &[u8], item: Item, next: usize) -> FoundDataPath
-    requires { ⌜ next ≡ Search.behind item ⌝ }
+    requires { ⌜ next ≡ Search.behindItem item ⌝ }
     ensures { λ r. ⌜ saidFoundDataPath r ≡ Search.firstOf (Search.matched 0x0C dataPath (now (tail .entry)) item) ⌝ }
 {
     if item.tlv_type != DataPathStateTLV::TLV_TYPE {
@@ -81,7 +81,7 @@ fn no_synchronization() -> FoundSynchronization
 }
 
 fn match_and_parse_synchronization(tail: &[u8], item: Item, next: usize) -> FoundSynchronization
-    requires { ⌜ next ≡ Search.behind item ⌝ }
+    requires { ⌜ next ≡ Search.behindItem item ⌝ }
     ensures { λ r. ⌜ r ≡ synchronizationFound (Search.firstOf (Search.matched 0x04 synchronization (now (tail .entry)) item)) ⌝ }
 {
     if item.tlv_type != SynchronizationParametersTLV::TLV_TYPE {

@@ -1,7 +1,7 @@
 ghost use mathlib.Core.Path.{_≡_};
 ghost use Rattle.wire.specs.Parts.{partAt};
 ghost use Rattle.tlvs.specs.Items.{stepAt, valueOf, valueStart};
-ghost use Rattle.tlvs.specs.Walk.{walk, reportOf};
+ghost use Rattle.tlvs.specs.Walk.{walk, endReport};
 ghost use Rattle.tlvs.specs.Said.{saidEnd};
 use crate::item::End;
 use crate::item::Item;
@@ -62,7 +62,7 @@ pub fn value(tail: &[u8], item: Item) -> &[u8]
 
 // Walks the whole tail and counts.
 pub fn end(tail: &[u8]) -> End
-    ensures { λ r. ⌜ saidEnd r ≡ reportOf (walk (now (tail .entry))) ⌝ }
+    ensures { λ r. ⌜ saidEnd r ≡ endReport (walk (now (tail .entry))) ⌝ }
 {
     let mut at = 0;
     let mut items = 0;

@@ -56,16 +56,16 @@ pub number-short : (n : ℕ) (s : List ℕ) (at : ℕ) → length s - at < suc n
 number-short n s at h = rw (field-short n s at h)
 
 -- a field whose place was given: it stands within, and is the part up to that place
-pub record Placed (n : ℕ) (s : List ℕ) (at next : ℕ) : Type 0 where
+pub record PlacedField (n : ℕ) (s : List ℕ) (at next : ℕ) : Type 0 where
   pub place : next ≡ at + n
   pub inside : at + n ≤ length s
   pub size : length (take (next - at) (drop at s)) ≡ n
   pub whole : field n s at ≡ read (take (next - at) (drop at s)) next
 
-pub placed : (n : ℕ) (s : List ℕ) (at : ℕ) {next : ℕ} → answer next ≡ placeOf (field n s at) → Placed n s at next
+pub placed : (n : ℕ) (s : List ℕ) (at : ℕ) {next : ℕ} → answer next ≡ placeOf (field n s at) → PlacedField n s at next
 placed n s at {next} e = go (leb (at + n) (length s)) refl
   where
-    go : (b : Bool) → leb (at + n) (length s) ≡ b → Placed n s at next
+    go : (b : Bool) → leb (at + n) (length s) ≡ b → PlacedField n s at next
     go true q =
         let place : next ≡ at + n = let e′ = rw q at e in cc in
         let inside : at + n ≤ length s = leb-true (at + n) (length s) q in

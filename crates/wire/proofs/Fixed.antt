@@ -37,14 +37,14 @@ pub past-step : (ns : List ℕ) (s : List ℕ) (at i : ℕ) → i < length ns
     → past (drop i ns) s at ≡ placeOf (field (getD ns i 0) s at) then past (drop (i + 1) ns) s
 past-step ns s at i h = rw (add-one i, drop-cons ns i 0 h)
 
-pub record Fixed {A : Type 0} (r : Reader A) (widths : List ℕ) : Type 0 where
+pub record FixedWidths {A : Type 0} (r : Reader A) (widths : List ℕ) : Type 0 where
   pub lawful : Lawful r
   pub place : (s : List ℕ) (at : ℕ) → placeOf (r s at) ≡ past widths s at
 
-pub give-fixed : {A : Type 0} (a : A) → Fixed (give a) []
+pub give-fixed : {A : Type 0} (a : A) → FixedWidths (give a) []
 give-fixed a = record { lawful = give-lawful a; place = λ s at. refl }
 
-pub field-fixed : (n : ℕ) → Fixed (field n) (n ∷ [])
+pub field-fixed : (n : ℕ) → FixedWidths (field n) (n ∷ [])
 field-fixed n = record { lawful = field-lawful n; place = λ s at. go (placeOf (field n s at)) }
   where
     go : (a : Answer ℕ) → a ≡ a then answer
@@ -52,7 +52,7 @@ field-fixed n = record { lawful = field-lawful n; place = λ s at. go (placeOf (
     go (refusal why) = refl
 
 pub bind-fixed : {A B : Type 0} {m : Reader A} {f : A → Reader B} {xs ys : List ℕ}
-    → Fixed m xs → ((a : A) → Fixed (f a) ys) → Fixed (m >>= f) (xs ++ ys)
+    → FixedWidths m xs → ((a : A) → FixedWidths (f a) ys) → FixedWidths (m >>= f) (xs ++ ys)
 bind-fixed {A} {B} {m} {f} {xs} {ys} first second =
     record {
       lawful = bind-lawful (first .lawful) (λ a. second a .lawful);
@@ -63,8 +63,8 @@ bind-fixed {A} {B} {m} {f} {xs} {ys} first second =
     go s (read a next) e = rw (← e) (second a .place s next)
     go s (refused why) e = rw (← e)
 
-pub number-fixed : (width : ℕ) → Fixed (number width) (width ∷ [])
+pub number-fixed : (width : ℕ) → FixedWidths (number width) (width ∷ [])
 number-fixed width = bind-fixed (field-fixed width) (λ bytes. give-fixed (little bytes))
 
-pub address-fixed : Fixed address (6 ∷ [])
+pub address-fixed : FixedWidths address (6 ∷ [])
 address-fixed = bind-fixed (field-fixed 6) (λ bytes. give-fixed (addressOf bytes))

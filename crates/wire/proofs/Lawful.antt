@@ -19,16 +19,16 @@ use Rattle.wire.specs.Numbers.{little, number}
 use Rattle.wire.specs.Addresses.{addressOf, address}
 
 -- two lists agree up to a place
-abbrev pub Same : ℕ → List ℕ → List ℕ → Type 0
-Same n s t = take n s ≡ take n t
+abbrev pub SameUpTo : ℕ → List ℕ → List ℕ → Type 0
+SameUpTo n s t = take n s ≡ take n t
 
-same-below : (m n : ℕ) (s t : List ℕ) → m ≤ n → Same n s t → Same m s t
+same-below : (m n : ℕ) (s t : List ℕ) → m ≤ n → SameUpTo n s t → SameUpTo m s t
 same-below m n s t h same = sym (take-take m n s h) ∙ ap (take m) same ∙ take-take m n t h
 
 -- a reader goes ahead and stays within; only the bytes that it passed matter; where they are cut, it is short
 pub record Lawful {A : Type 0} (r : Reader A) : Type 0 where
   pub ahead : {s : List ℕ} {at next : ℕ} {a : A} → at ≤ length s → r s at ≡ read a next → (at ≤ next) × (next ≤ length s)
-  pub local : {s t : List ℕ} {at next : ℕ} {a : A} → at ≤ length s → r s at ≡ read a next → Same next s t → r t at ≡ read a next
+  pub local : {s t : List ℕ} {at next : ℕ} {a : A} → at ≤ length s → r s at ≡ read a next → SameUpTo next s t → r t at ≡ read a next
   pub cut : {s : List ℕ} {at next k : ℕ} {a : A} → at ≤ length s → r s at ≡ read a next → at ≤ k → k < next → r (take k s) at ≡ refused Short
 
 -- a refusal is no value
@@ -71,7 +71,7 @@ field-within n s at h =
     rw (le-leb (at + n) (length s) h, take-add at n s, drop-at (take at s) (take n (drop at s)) at before)
 
 -- lists that agree up to a place within the one have that place within the other
-same-length : (n : ℕ) (s t : List ℕ) → n ≤ length s → Same n s t → n ≤ length t
+same-length : (n : ℕ) (s t : List ℕ) → n ≤ length s → SameUpTo n s t → n ≤ length t
 same-length n s t h same =
     let e : min n (length t) ≡ n = sym (length-take n t) ∙ sym (ap length same) ∙ length-take-le n s h in
     omega arith
@@ -82,7 +82,7 @@ field-lawful n =
       ahead = λ {s} {at} h e. let f = field-read n s at e in omega arith;
       local = λ {s} {t} {at} {next} {a} h e same.
           let f = field-read n s at e in
-          let same′ : Same (at + n) s t = rw (f .0) same in
+          let same′ : SameUpTo (at + n) s t = rw (f .0) same in
           field-within n t at (same-length (at + n) s t (f .1) same′) ∙ rw (← same′, f .2, f .0);
       cut = λ {s} {at} {next} {k} h e low high.
           let f = field-read n s at e in
@@ -112,7 +112,7 @@ bind-lawful {m} {f} lm lf =
           let w = steps (m s at) (λ a next. f a s next) e in
           let p = lm .ahead h (w .begins) in
           let q = lf (w .first) .ahead (p .1) (w .goes) in
-          let same′ : Same (w .mid) s t = same-below (w .mid) next s t (q .0) same in
+          let same′ : SameUpTo (w .mid) s t = same-below (w .mid) next s t (q .0) same in
           rw (lm .local h (w .begins) same′) (lf (w .first) .local (p .1) (w .goes) same);
       cut = λ {s} {at} {next} {k} h e low high.
           let w = steps (m s at) (λ a next. f a s next) e in

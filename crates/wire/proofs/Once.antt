@@ -15,8 +15,8 @@ use Rattle.wire.specs.Answer.{Answer, answer, refusal}
 use Rattle.wire.specs.Said.{saidU8, saidU16, saidU32, saidAddress, saidPlace, saidSize}
 
 -- two answers of which the same was said, by a saying that can be undone, are one
-pub once : {A B : Type 0} (said : A → B) (undo : B → A) → ((a : A) → undo (said a) ≡ a) → {m : B} {a b : A} → said a ≡ m → said b ≡ m → a ≡ b
-once said undo back {m} {a} {b} p q = sym (back a) ∙ ap undo (p ∙ sym q) ∙ back b
+pub only-one : {A B : Type 0} (said : A → B) (undo : B → A) → ((a : A) → undo (said a) ≡ a) → {m : B} {a b : A} → said a ≡ m → said b ≡ m → a ≡ b
+only-one said undo back {m} {a} {b} p q = sym (back a) ∙ ap undo (p ∙ sym q) ∙ back b
 
 -- an answer made of what is said of it, case by case
 abbrev pub ofReading : {A X : Type 0} → (X → ℕ → A) → (Refusal → A) → Reading X → A
@@ -28,23 +28,23 @@ ofAnswer found none (answer v) = found v
 ofAnswer found none (refusal why) = none why
 
 pub onceU8 : {m : Reading ℕ} {a b : ReadU8} → saidU8 a ≡ m → saidU8 b ≡ m → a ≡ b
-onceU8 = once saidU8 (ofReading ReadU8.Read ReadU8.Refused) (elim [ ReadU8.Read v next ↦ refl | ReadU8.Refused why ↦ refl ])
+onceU8 = only-one saidU8 (ofReading ReadU8.Read ReadU8.Refused) (elim [ ReadU8.Read v next ↦ refl | ReadU8.Refused why ↦ refl ])
 
 pub onceU16 : {m : Reading ℕ} {a b : ReadU16} → saidU16 a ≡ m → saidU16 b ≡ m → a ≡ b
-onceU16 = once saidU16 (ofReading ReadU16.Read ReadU16.Refused) (elim [ ReadU16.Read v next ↦ refl | ReadU16.Refused why ↦ refl ])
+onceU16 = only-one saidU16 (ofReading ReadU16.Read ReadU16.Refused) (elim [ ReadU16.Read v next ↦ refl | ReadU16.Refused why ↦ refl ])
 
 pub onceU32 : {m : Reading ℕ} {a b : ReadU32} → saidU32 a ≡ m → saidU32 b ≡ m → a ≡ b
-onceU32 = once saidU32 (ofReading ReadU32.Read ReadU32.Refused) (elim [ ReadU32.Read v next ↦ refl | ReadU32.Refused why ↦ refl ])
+onceU32 = only-one saidU32 (ofReading ReadU32.Read ReadU32.Refused) (elim [ ReadU32.Read v next ↦ refl | ReadU32.Refused why ↦ refl ])
 
 pub onceAddress : {m : Reading MACAddress} {a b : ReadAddress} → saidAddress a ≡ m → saidAddress b ≡ m → a ≡ b
 onceAddress =
-    once saidAddress (ofReading ReadAddress.Read ReadAddress.Refused) (elim [ ReadAddress.Read v next ↦ refl | ReadAddress.Refused why ↦ refl ])
+    only-one saidAddress (ofReading ReadAddress.Read ReadAddress.Refused) (elim [ ReadAddress.Read v next ↦ refl | ReadAddress.Refused why ↦ refl ])
 
 pub oncePlace : {m : Answer ℕ} {a b : Place} → saidPlace a ≡ m → saidPlace b ≡ m → a ≡ b
-oncePlace = once saidPlace (ofAnswer Place.At Place.Refused) (elim [ Place.At next ↦ refl | Place.Refused why ↦ refl ])
+oncePlace = only-one saidPlace (ofAnswer Place.At Place.Refused) (elim [ Place.At next ↦ refl | Place.Refused why ↦ refl ])
 
 pub onceSize : {m : Answer ℕ} {a b : Size} → saidSize a ≡ m → saidSize b ≡ m → a ≡ b
-onceSize = once saidSize (ofAnswer Size.Bytes Size.Refused) (elim [ Size.Bytes n ↦ refl | Size.Refused why ↦ refl ])
+onceSize = only-one saidSize (ofAnswer Size.Bytes Size.Refused) (elim [ Size.Bytes n ↦ refl | Size.Refused why ↦ refl ])
 
 -- what was said of a result is what its case says
 pub told : {A B : Type 0} (said : A → B) {r x : A} {m : B} → said r ≡ m → r ≡ x → m ≡ said x

@@ -14,7 +14,7 @@ use Rattle.wire.specs.declared.refusal.Refusal.the-variants.{Short}
 use Rattle.wire.specs.Reading.{Reading, read, refused, field, give, _>>=_}
 use Rattle.wire.specs.Answer.{answer, placeOf}
 use Rattle.wire.proofs.Lawful.{never, steps, field-read}
-use Rattle.wire.proofs.Bytes.{Placed, from, field-whole}
+use Rattle.wire.proofs.Bytes.{PlacedField, from, field-whole}
 
 -- a reading that has no value but its place is that place
 pub passed : (r : Reading (Unit {0})) {next : ℕ} → answer next ≡ placeOf r → r ≡ read tt next
@@ -22,7 +22,7 @@ passed (read a place) {next} e = let same : next ≡ place = cc in ap (read tt) 
 passed (refused why) e = absurd (let z : _≡_ {A = ℕ} 0 1 = cc in omega arith)
 
 -- a field whose place was given begins with the byte at its start
-pub begins : {n : ℕ} {s : List ℕ} {at next : ℕ} → Placed (suc n) s at next → field (suc n) s at ≡ read (getD s at 0 ∷ from s at 1 n) next
+pub begins : {n : ℕ} {s : List ℕ} {at next : ℕ} → PlacedField (suc n) s at next → field (suc n) s at ≡ read (getD s at 0 ∷ from s at 1 n) next
 begins {n} {s} {at} p = rw (p .place) (field-whole n s at (omega arith))
 
 -- a field that was read stood within

@@ -12,7 +12,7 @@ use lib.Seq.{paste, paste-zero, take-length, take-at, drop-append-add, drop-drop
 use borrow.Author.Tests.{le-leb, lt-leb, leb-true, leb-false}
 use Rattle.wire.specs.declared.refusal.Refusal.{Refusal}
 use Rattle.wire.specs.Answer.{Answer, answer, refusal}
-use Rattle.wire.specs.Writing.{fits, behind, Put, Runs, within, lengthOf, Wrote}
+use Rattle.wire.specs.Writing.{fits, placeBehind, Put, PutIfRoom, within, lengthOf, Wrote}
 
 pub put-none : (s : List ℕ) (at : ℕ) (bytes : List ℕ) → length s - at < length bytes → Put s at bytes at s
 put-none s at bytes h =
@@ -69,13 +69,13 @@ put-then {s} {at} {xs} {mid} {t} {ys} {next} {u} p q h =
     let rest : List ℕ = drop (at + length xs) s in
     let head : length front ≡ mid = simp (length-append, length-take) (omega arith) in
     let kept : take mid t ≡ front = rw (first .1) (take-at front rest mid head) in
-    let behind : drop (mid + length ys) t ≡ drop (at + (length xs + length ys)) s =
+    let placeBehind : drop (mid + length ys) t ≡ drop (at + (length xs + length ys)) s =
     rw (first .1, ← head, ← add-assoc at (length xs) (length ys))
     (drop-append-add front rest (length ys) ∙ drop-drop (length ys) (at + length xs) s) in
     let room : fits s at (xs ++ ys) ≡ true = le-leb (at + length (xs ++ ys)) (length s) (simp length-append (omega arith)) in
     record {
       place = rw (room, length-append xs ys) (omega arith);
-      buffer = rw (room, length-append xs ys, second .1, kept, behind, append-assoc (take at s) xs ys);
+      buffer = rw (room, length-append xs ys, second .1, kept, placeBehind, append-assoc (take at s) xs ys);
     }
 
 -- a record's bytes at the start of a buffer that has room for them
@@ -99,10 +99,10 @@ wrote-none s (answer b) e = record { size = e; buffer = rw (← e) }
 wrote-none s (refusal why) e = record { size = e; buffer = refl }
 
 -- runs are put one behind the other, from any place
-infixl 20 _onward_
-pub _onward_ : {s : List ℕ} {at : ℕ} {xs : List ℕ} {mid : ℕ} {t ys : List ℕ} {next : ℕ} {u : List ℕ}
-    → Runs s at xs mid t → Runs t mid ys next u → Runs s at (xs ++ ys) next u
-_onward_ {s} {at} {xs} {mid} {t} {ys} p q room =
+infixl 20 _and-then_
+pub _and-then_ : {s : List ℕ} {at : ℕ} {xs : List ℕ} {mid : ℕ} {t ys : List ℕ} {next : ℕ} {u : List ℕ}
+    → PutIfRoom s at xs mid t → PutIfRoom t mid ys next u → PutIfRoom s at (xs ++ ys) next u
+_and-then_ {s} {at} {xs} {mid} {t} {ys} p q room =
     let both = length-append xs ys in
     let first = p (omega arith) in
     let laid = put-fits first (omega arith) in
@@ -110,14 +110,14 @@ _onward_ {s} {at} {xs} {mid} {t} {ys} p q room =
 
 -- two runs of a field that is there or is not
 pub run-both : (present : Bool) (xs ys : List ℕ) {s : List ℕ} {at mid : ℕ} {t : List ℕ} {next : ℕ} {u : List ℕ}
-    → Runs s at (cond present xs []) mid t → Runs t mid (cond present ys []) next u → Runs s at (cond present (xs ++ ys) []) next u
-run-both true xs ys p q = p onward q
-run-both false xs ys p q = p onward q
+    → PutIfRoom s at (cond present xs []) mid t → PutIfRoom t mid (cond present ys []) next u → PutIfRoom s at (cond present (xs ++ ys) []) next u
+run-both true xs ys p q = p and-then q
+run-both false xs ys p q = p and-then q
 
 -- from the start on, with each run at its own place
 infixl 20 _also_
 pub _also_ : {s xs : List ℕ} {mid : ℕ} {t ys : List ℕ} {next : ℕ} {u : List ℕ}
-    → Runs s 0 xs mid t → Put t (length xs) ys next u → Runs s 0 (xs ++ ys) next u
+    → PutIfRoom s 0 xs mid t → Put t (length xs) ys next u → PutIfRoom s 0 (xs ++ ys) next u
 _also_ {s} {xs} {mid} {t} {ys} p q room =
     let both = length-append xs ys in
     let first = p (omega arith) in

@@ -14,11 +14,11 @@ pub both : (a b : Bool) → (a && b) ≡ true → (a ≡ true) × (b ≡ true)
 both true b e = (refl, e)
 both false b e = absurd (never-true e)
 
-pub same : (a b : Bool) → Bool·beq a b ≡ true → a ≡ b
-same true true e = refl
-same true false e = absurd (never-true e)
-same false true e = absurd (never-true e)
-same false false e = refl
+pub beq-same : (a b : Bool) → Bool·beq a b ≡ true → a ≡ b
+beq-same true true e = refl
+beq-same true false e = absurd (never-true e)
+beq-same false true e = absurd (never-true e)
+beq-same false false e = refl
 
 pub other : (a b : Bool) → (a || b) ≡ true → a ≡ false → b ≡ true
 other true b e f = absurd (never-true (sym f))
@@ -30,31 +30,31 @@ implied true false e f = absurd (never-true e)
 implied false b e f = refl
 
 -- a row of tests, joined from the left, and that each of them holds
-abbrev pub row : Bool → List Bool → Bool
-row a [] = a
-row a (b ∷ rest) = row (a && b) rest
+abbrev pub allTrue : Bool → List Bool → Bool
+allTrue a [] = a
+allTrue a (b ∷ rest) = allTrue (a && b) rest
 
 abbrev pub Each : List Bool → Type 0
 Each [] = Unit {0}
 Each (b ∷ rest) = (b ≡ true) × Each rest
 
-row-first : (a : Bool) (rest : List Bool) → row a rest ≡ true → a ≡ true
+row-first : (a : Bool) (rest : List Bool) → allTrue a rest ≡ true → a ≡ true
 row-first a [] e = e
 row-first a (b ∷ rest) e = both a b (row-first (a && b) rest e) .0
 
-pub each : (a : Bool) (rest : List Bool) → row a rest ≡ true → Each (a ∷ rest)
+pub each : (a : Bool) (rest : List Bool) → allTrue a rest ≡ true → Each (a ∷ rest)
 each a [] e = (e, tt)
 each a (b ∷ rest) e =
     let first = both a b (row-first (a && b) rest e) in
     (first .0, (first .1, each (a && b) rest e .1))
 
 -- the same by a test's place in the row
-pub nth : (a : Bool) (rest : List Bool) → row a rest ≡ true → (i : ℕ) → getD rest i true ≡ true
+pub nth : (a : Bool) (rest : List Bool) → allTrue a rest ≡ true → (i : ℕ) → getD rest i true ≡ true
 nth a [] e i = refl
 nth a (b ∷ rest) e zero = both a b (row-first (a && b) rest e) .1
 nth a (b ∷ rest) e (suc i) = nth (a && b) rest e i
 
-pub joined : (a : Bool) (rest : List Bool) → Each (a ∷ rest) → row a rest ≡ true
+pub joined : (a : Bool) (rest : List Bool) → Each (a ∷ rest) → allTrue a rest ≡ true
 joined a [] e = e .0
 joined a (b ∷ rest) e = joined (a && b) rest (rw (e .0, e .1 .0), e .1 .1)
 

@@ -28,6 +28,6 @@ abbrev pub bit : ℕ → ℕ → Bool
 bit k w = eqb (bits k 1 w) 1
 
 -- numbers, each with the width of its field, that are below what their bytes can write
-pub data Fits : List (ℕ × ℕ) → Type 0 where
-  none : Fits []
-  one : {width v : ℕ} {others : List (ℕ × ℕ)} → v < 256 ^ width → Fits others → Fits ((width, v) ∷ others)
+pub data AllInWidth : List (ℕ × ℕ) → Type 0 where
+  none : AllInWidth []
+  one : {width v : ℕ} {others : List (ℕ × ℕ)} → v < 256 ^ width → AllInWidth others → AllInWidth ((width, v) ∷ others)

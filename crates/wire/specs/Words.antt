@@ -10,11 +10,11 @@ pub data Run : Type 0 where
   put : Bool → Run
 
 -- a word with its bits laid out by runs; behind the last run all bits are 0
-abbrev pub laid : List Run → ℕ → ℕ
-laid [] w = 0
-laid (keep n ∷ rest) w = laid rest (w / 2 ^ n) * 2 ^ n + w % 2 ^ n
-laid (clear n ∷ rest) w = laid rest (w / 2 ^ n) * 2 ^ n
-laid (put b ∷ rest) w = laid rest (w / 2 ^ 1) * 2 ^ 1 + cond b 1 0
+abbrev pub wordBy : List Run → ℕ → ℕ
+wordBy [] w = 0
+wordBy (keep n ∷ rest) w = wordBy rest (w / 2 ^ n) * 2 ^ n + w % 2 ^ n
+wordBy (clear n ∷ rest) w = wordBy rest (w / 2 ^ n) * 2 ^ n
+wordBy (put b ∷ rest) w = wordBy rest (w / 2 ^ 1) * 2 ^ 1 + cond b 1 0
 
 -- the mask of the bits that stay
 abbrev pub maskOf : List Run → ℕ

@@ -17,16 +17,16 @@ abbrev pub putting : List ℕ → ℕ → List ℕ → List ℕ
 putting s at bytes = cond (fits s at bytes) (take at s ++ bytes ++ drop (at + length bytes) s) s
 
 -- the place behind the bytes, or, where they do not fit, the place itself
-abbrev pub behind : List ℕ → ℕ → List ℕ → ℕ
-behind s at bytes = cond (fits s at bytes) (at + length bytes) at
+abbrev pub placeBehind : List ℕ → ℕ → List ℕ → ℕ
+placeBehind s at bytes = cond (fits s at bytes) (at + length bytes) at
 
 pub record Put (s : List ℕ) (at : ℕ) (bytes : List ℕ) (next : ℕ) (after : List ℕ) : Type 0 where
-  pub place : next ≡ behind s at bytes
+  pub place : next ≡ placeBehind s at bytes
   pub buffer : after ≡ putting s at bytes
 
 -- bytes that are put run after run: that there is room is asked once, of all of them
-abbrev pub Runs : List ℕ → ℕ → List ℕ → ℕ → List ℕ → Type 0
-Runs s at bytes next after = at + length bytes ≤ length s → Put s at bytes next after
+abbrev pub PutIfRoom : List ℕ → ℕ → List ℕ → ℕ → List ℕ → Type 0
+PutIfRoom s at bytes next after = at + length bytes ≤ length s → Put s at bytes next after
 
 -- a size that has to fit a room
 abbrev pub within : ℕ → Answer ℕ → Answer ℕ

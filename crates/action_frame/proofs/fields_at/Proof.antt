@@ -2,7 +2,7 @@
 -- Assumes nothing.
 use Rattle.action_frame.proofs.fields_at.Statement.{statement}
 use Rattle.action_frame.proofs.fields_at.Tie as tie
-use Rattle.wire.proofs.Bytes.{Placed, placed, unplaced}
+use Rattle.wire.proofs.Bytes.{PlacedField, placed, unplaced}
 use Rattle.wire.proofs.Places.{begins}
 use Rattle.wire.specs.Reading.{field}
 use Rattle.wire.specs.Said.{saidPlace, saidU32}
@@ -13,7 +13,7 @@ use native.Mathlib.Omega.{arith}
 -- where its place was given, the field of the subtype stands within
 pair : (c : tie.After-known-told) →
     let a = c .before .before .before .before .before .args in
-    Placed 2 (a .s .now) (a .at) (c .before .stamps .given .0 .0)
+    PlacedField 2 (a .s .now) (a .at) (c .before .stamps .given .0 .0)
 pair c = placed _ _ _ (ap saidPlace (sym (c .before .stamps .given .1)) ∙ c .before .before .before .field-at .ensures)
 
 field-at-requires : tie.Need-field-at-requires

@@ -2,7 +2,7 @@
 -- Assumes nothing.
 use Rattle.data_path_fields.proofs.read.country_code.Statement.{statement}
 use Rattle.data_path_fields.proofs.read.country_code.Tie as tie
-use Rattle.wire.proofs.Bytes.{Placed, placed, unplaced, field-whole}
+use Rattle.wire.proofs.Bytes.{PlacedField, placed, unplaced, field-whole}
 use Rattle.wire.proofs.Once.{told}
 use Rattle.wire.specs.Reading.{field}
 use Rattle.wire.specs.Said.{saidPlace}
@@ -12,7 +12,7 @@ use mathlib.Core.Path.{sym}
 use native.Mathlib.Omega.{arith}
 
 -- where the field's place was given, it stands within
-part : (c : tie.After-known-told) → Placed 3 (c .before .before .before .before .before .before .args .s .now) (c .before .before .before .before .before .before .args .at) (c .before .next .given .0 .0)
+part : (c : tie.After-known-told) → PlacedField 3 (c .before .before .before .before .before .before .args .s .now) (c .before .before .before .before .before .before .args .at) (c .before .next .given .0 .0)
 part c = placed _ _ _ (sym (told saidPlace (c .before .before .before .field-at .ensures) (c .before .next .given .1)))
 
 returns : tie.Need-returns

@@ -2,7 +2,7 @@
 -- Assumes nothing.
 use Rattle.data_path_fields.proofs.read.read_addresses.Statement.{statement}
 use Rattle.data_path_fields.proofs.read.read_addresses.Tie as tie
-use Rattle.data_path_fields.specs.Said.{saidAddress, saidInfra}
+use Rattle.data_path_fields.specs.Said.{saidOptionalAddress, saidInfra}
 use Rattle.wire.proofs.Once.{told}
 use borrow.Author.Needs.{needs}
 
@@ -28,8 +28,8 @@ returns : tie.Need-returns
 returns c =
     rw (
       told saidInfra (c .before .before .before .before .before .before .before .before .before .before .before .infra-bssid-channel .ensures) (c .before .before .before .before .before .before .before .before .before .bssid .given .1),
-      told saidAddress (c .before .before .before .before .before .before .before .one-address .ensures) (c .before .before .before .before .before .infra .given .1),
-      told saidAddress (c .before .before .before .one-address2 .ensures) (c .before .awdl .given .1),
+      told saidOptionalAddress (c .before .before .before .before .before .before .before .one-address .ensures) (c .before .before .before .before .before .infra .given .1),
+      told saidOptionalAddress (c .before .before .before .one-address2 .ensures) (c .before .awdl .given .1),
     )
 
 enum-known-why : tie.Need-enum-known-why
@@ -39,8 +39,8 @@ returns-2 : tie.Need-returns-2
 returns-2 c =
     rw (
       told saidInfra (c .before .before .before .before .before .before .before .before .before .before .before .infra-bssid-channel .ensures) (c .before .before .before .before .before .before .before .before .before .bssid .given .1),
-      told saidAddress (c .before .before .before .before .before .before .before .one-address .ensures) (c .before .before .before .before .before .infra .given .1),
-      told saidAddress (c .before .before .before .one-address2 .ensures) (c .before .why .given .1),
+      told saidOptionalAddress (c .before .before .before .before .before .before .before .one-address .ensures) (c .before .before .before .before .before .infra .given .1),
+      told saidOptionalAddress (c .before .before .before .one-address2 .ensures) (c .before .why .given .1),
     )
 
 enum-known-why-2 : tie.Need-enum-known-why-2
@@ -50,7 +50,7 @@ returns-3 : tie.Need-returns-3
 returns-3 c =
     rw (
       told saidInfra (c .before .before .before .before .before .before .before .infra-bssid-channel .ensures) (c .before .before .before .before .before .bssid .given .1),
-      told saidAddress (c .before .before .before .one-address .ensures) (c .before .why2 .given .1),
+      told saidOptionalAddress (c .before .before .before .one-address .ensures) (c .before .why2 .given .1),
     )
 
 enum-known-why-3 : tie.Need-enum-known-why-3

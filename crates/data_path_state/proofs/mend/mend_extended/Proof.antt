@@ -6,7 +6,7 @@ use Rattle.data_path_state.proofs.mend.mend_extended.Statement.{stateme
 use Rattle.data_path_state.proofs.mend.mend_extended.Tie as tie
 use Rattle.data_path_state.specs.Mended.{extendedRuns, hasExtended}
 use Rattle.data_path_fields.specs.declared.fields.OptionalExtendedFlags.{OptionalExtendedFlags}
-use Rattle.wire.proofs.Words.{laid-mask}
+use Rattle.wire.proofs.Words.{word-mask}
 use borrow.Author.Needs.{needs}
 use lib.Bits.{and-le-r}
 use mathlib.Core.Bool.{cond}
@@ -45,7 +45,7 @@ returns c =
     (ap {B = OptionalExtendedFlags} (λ (n : ℕ). record { present = hasExtended r; flags = record { 0 = n } })
     (omega (
       arith,
-      laid-mask (extendedRuns r) word,
+      word-mask (extendedRuns r) word,
       valued (r .«log_trigger_id» .present) 1,
       valued (r .rlfc .present) 4,
       valued (r .stats .present) 32,

@@ -6,7 +6,7 @@ use Rattle.data_path_state.proofs.mend.mend_flags.Statement.{statement}
 use Rattle.data_path_state.proofs.mend.mend_flags.Tie as tie
 use Rattle.data_path_state.specs.Mended.{flagsRuns, hasOptions, hasExtended}
 use Rattle.data_path_fields.specs.declared.fields.DataPathFlags.{DataPathFlags}
-use Rattle.wire.proofs.Words.{laid-mask}
+use Rattle.wire.proofs.Words.{word-mask}
 use borrow.Author.Needs.{needs}
 use lib.Bits.{and-le-r}
 use mathlib.Core.Bool.{Bool, cond}
@@ -65,7 +65,7 @@ returns c =
     (omega (
       arith,
       ap {B = ℕ} (λ (b : Bool). cond b 32768 0) (c .before .has-extended .ensures),
-      laid-mask (flagsRuns r) (r .flags .0),
+      word-mask (flagsRuns r) (r .flags .0),
       valued (r .«infra_bssid_channel» .present) 1,
       valued (r .«infra_address» .present) 2,
       valued (r .«awdl_address» .present) 4,

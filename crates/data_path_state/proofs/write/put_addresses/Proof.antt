@@ -2,7 +2,7 @@
 -- Assumes nothing.
 use Rattle.data_path_state.proofs.write.put_addresses.Statement.{statement}
 use Rattle.data_path_state.proofs.write.put_addresses.Tie as tie
-use Rattle.wire.proofs.Stores.{_onward_, run-both}
+use Rattle.wire.proofs.Stores.{_and-then_, run-both}
 use Rattle.wire.specs.Addresses.{addressBytes}
 use Rattle.wire.specs.Numbers.{littleBytes}
 use borrow.Author.Needs.{needs}
@@ -31,7 +31,7 @@ returns c =
     let i = bssid .before .before .before .before .args .r .«infra_bssid_channel» in
     run-both (i .present) (addressBytes (i .bssid)) (littleBytes 2 (i .channel))
     (λ room. bssid .put-address .ensures) (λ room. channel .put-short .ensures)
-    onward (λ room. infra .put-address2 .ensures) onward (λ room. awdl .put-address3 .ensures)
+    and-then (λ room. infra .put-address2 .ensures) and-then (λ room. awdl .put-address3 .ensures)
 
 pub put-addresses-spec : {M : Type 1} → statement M
 put-addresses-spec =

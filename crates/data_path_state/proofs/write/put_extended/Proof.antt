@@ -2,7 +2,7 @@
 -- Assumes nothing.
 use Rattle.data_path_state.proofs.write.put_extended.Statement.{statement}
 use Rattle.data_path_state.proofs.write.put_extended.Tie as tie
-use Rattle.wire.proofs.Stores.{_onward_, put-empty}
+use Rattle.wire.proofs.Stores.{_and-then_, put-empty}
 use borrow.Author.Needs.{needs}
 
 put-u16-requires : tie.Need-put-u16-requires
@@ -27,8 +27,8 @@ returns c =
     let trigger = rlfc .before .before .before .before in
     let flags = trigger .before .before .before .before in
     rw (flags .before .before .if1 .taken)
-    ((λ room. flags .put-u16 .ensures) onward (λ room. trigger .put-short .ensures)
-    onward (λ room. rlfc .put-word .ensures) onward stats .put-stats .ensures)
+    ((λ room. flags .put-u16 .ensures) and-then (λ room. trigger .put-short .ensures)
+    and-then (λ room. rlfc .put-word .ensures) and-then stats .put-stats .ensures)
 
 returns-2 : tie.Need-returns-2
 returns-2 c = rw (c .if1 .left) λ room. put-empty _ _

@@ -2,7 +2,7 @@
 -- Assumes nothing.
 use Rattle.data_path_state.proofs.write.put_head.Statement.{statement}
 use Rattle.data_path_state.proofs.write.put_head.Tie as tie
-use Rattle.wire.proofs.Stores.{_onward_}
+use Rattle.wire.proofs.Stores.{_and-then_}
 use borrow.Author.Needs.{needs}
 
 put-u16-requires : tie.Need-put-u16-requires
@@ -28,8 +28,8 @@ returns c =
     let word = c .before .before in
     let country = word .before .before .before .before .before .before in
     let flags = country .before .before .before .before .before .before in
-    (λ room. flags .put-u16 .ensures) onward (λ room. country .put-present .ensures)
-    onward (λ room. rw (word .before .as-u16 .ensures) at (word .put-short .ensures))
+    (λ room. flags .put-u16 .ensures) and-then (λ room. country .put-present .ensures)
+    and-then (λ room. rw (word .before .as-u16 .ensures) at (word .put-short .ensures))
 
 pub put-head-spec : {M : Type 1} → statement M
 put-head-spec =

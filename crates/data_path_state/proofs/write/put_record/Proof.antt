@@ -2,8 +2,8 @@
 -- Assumes nothing.
 use Rattle.data_path_state.proofs.write.put_record.Statement.{statement}
 use Rattle.data_path_state.proofs.write.put_record.Tie as tie
-use Rattle.data_path_state.specs.Bytes.{laidDown}
-use Rattle.wire.proofs.Stores.{_onward_}
+use Rattle.data_path_state.specs.Bytes.{recordBytes}
+use Rattle.wire.proofs.Stores.{_and-then_}
 use borrow.Author.Needs.{needs}
 
 put-head-requires : tie.Need-put-head-requires
@@ -22,14 +22,14 @@ same-length : tie.Need-same-length
 same-length c = search needs
 
 returns : tie.Need-returns
-unfolding laidDown
+unfolding recordBytes
 returns c =
     let extended = c .before .before in
     let unicast = extended .before .before .before .before in
     let addresses = unicast .before .before .before .before in
     let head = addresses .before .before .before .before in
-    head .put-head .ensures onward addresses .put-addresses .ensures
-    onward unicast .put-unicast .ensures onward extended .put-extended .ensures
+    head .put-head .ensures and-then addresses .put-addresses .ensures
+    and-then unicast .put-unicast .ensures and-then extended .put-extended .ensures
 
 pub put-record-spec : {M : Type 1} → statement M
 put-record-spec =

@@ -2,7 +2,7 @@
 -- Assumes nothing.
 use Rattle.data_path_state.proofs.write.put_unicast.Statement.{statement}
 use Rattle.data_path_state.proofs.write.put_unicast.Tie as tie
-use Rattle.wire.proofs.Stores.{_onward_, put-empty}
+use Rattle.wire.proofs.Stores.{_and-then_, put-empty}
 use borrow.Author.Needs.{needs}
 
 unicast-length-requires : tie.Need-unicast-length-requires
@@ -27,7 +27,7 @@ returns c =
     let length = options .before .before .before .before in
     rw (length .before .before .before .before .if1 .taken)
     ((λ room. rw (length .before .unicast-length .ensures) at (length .put-u16 .ensures))
-    onward (λ room. options .put-u32 .ensures) onward (λ room. ext .put-word .ensures))
+    and-then (λ room. options .put-u32 .ensures) and-then (λ room. ext .put-word .ensures))
 
 returns-2 : tie.Need-returns-2
 returns-2 c = rw (c .if1 .left) λ room. put-empty _ _

@@ -1,6 +1,6 @@
 -- `header` meets its contract: its words, numbers and the gap stand behind each other, with room for all.
 -- Assumes nothing.
-use Rattle.report.proofs.Laid.{laid-then}
+use Rattle.report.proofs.Room.{room-then}
 use Rattle.report.proofs.lines.header.Statement.{statement}
 use Rattle.report.proofs.lines.header.Tie as tie
 use borrow.Author.Needs.{needs}
@@ -53,7 +53,7 @@ returns c =
     let phy = rw (c .before .before .before .before .before .before .before .before .before .before .before .before .before .before .before .before .before .before .before .of-u32 .ensures) at (c .before .before .before .before .before .before .before .before .before .before .before .before .before .before .before .before .before .before .put-named2 .ensures .0) in
     let target = rw (c .before .before .before .before .before .before .before .before .before .before .before .before .before .of-u322 .ensures) at (c .before .before .before .before .before .before .before .before .before .before .before .before .put-named3 .ensures .0) in
     let gap = rw (c .before .before .before .before .before .before .before .before .tx-delta .ensures) at (c .before .before .before .before .before .before .before .put-delta .ensures .0) in
-    laid-then (laid-then (laid-then (laid-then subtype phy) target) gap) (c .before .before .put-word .ensures .0)
+    room-then (room-then (room-then (room-then subtype phy) target) gap) (c .before .before .put-word .ensures .0)
 
 pub header-spec : {M : Type 1} → statement M
 header-spec =

@@ -1,6 +1,6 @@
 -- `item` meets its contract, as `one_number` does.
 -- Assumes nothing.
-use Rattle.report.proofs.Laid.{laid-then}
+use Rattle.report.proofs.Room.{room-then}
 use Rattle.report.proofs.lines.item.Statement.{statement}
 use Rattle.report.proofs.lines.item.Tie as tie
 use borrow.Author.Needs.{needs}
@@ -34,8 +34,8 @@ same-length c = search needs
 
 returns : tie.Need-returns
 returns c =
-    laid-then
-    (laid-then (laid-then (c .before .before .before .before .before .before .before .before .before .before .before .before .before .before .before .before .before .put-named .ensures .0) (c .before .before .before .before .before .before .before .before .before .before .before .before .put-named2 .ensures .0)) (c .before .before .before .before .before .before .before .put-named3 .ensures .0))
+    room-then
+    (room-then (room-then (c .before .before .before .before .before .before .before .before .before .before .before .before .before .before .before .before .before .put-named .ensures .0) (c .before .before .before .before .before .before .before .before .before .before .before .before .put-named2 .ensures .0)) (c .before .before .before .before .before .before .before .put-named3 .ensures .0))
     (c .before .before .put-word .ensures .0)
 
 pub item-spec : {M : Type 1} → statement M

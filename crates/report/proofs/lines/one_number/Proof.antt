@@ -1,6 +1,6 @@
 -- `one_number` meets its contract: its words and digits stand behind each other, with room for all.
 -- Assumes nothing.
-use Rattle.report.proofs.Laid.{laid-then}
+use Rattle.report.proofs.Room.{room-then}
 use Rattle.report.proofs.lines.one_number.Statement.{statement}
 use Rattle.report.proofs.lines.one_number.Tie as tie
 use borrow.Author.Needs.{needs}
@@ -18,7 +18,7 @@ same-length : tie.Need-same-length
 same-length c = search needs
 
 returns : tie.Need-returns
-returns c = laid-then (c .before .before .before .before .before .before .before .put-named .ensures .0) (c .before .before .put-word .ensures .0)
+returns c = room-then (c .before .before .before .before .before .before .before .put-named .ensures .0) (c .before .before .put-word .ensures .0)
 
 pub one-number-spec : {M : Type 1} → statement M
 one-number-spec =

@@ -1,6 +1,6 @@
 -- `two_numbers` meets its contract, as `one_number` does.
 -- Assumes nothing.
-use Rattle.report.proofs.Laid.{laid-then}
+use Rattle.report.proofs.Room.{room-then}
 use Rattle.report.proofs.lines.two_numbers.Statement.{statement}
 use Rattle.report.proofs.lines.two_numbers.Tie as tie
 use borrow.Author.Needs.{needs}
@@ -22,7 +22,7 @@ same-length c = search needs
 
 returns : tie.Need-returns
 returns c =
-    laid-then (laid-then (c .before .before .before .before .before .before .before .before .before .before .before .put-named .ensures .0) (c .before .before .before .before .before .before .before .put-named2 .ensures .0))
+    room-then (room-then (c .before .before .before .before .before .before .before .before .before .before .before .put-named .ensures .0) (c .before .before .before .before .before .before .before .put-named2 .ensures .0))
     (c .before .before .put-word .ensures .0)
 
 pub two-numbers-spec : {M : Type 1} → statement M

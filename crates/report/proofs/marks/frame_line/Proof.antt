@@ -1,7 +1,7 @@
 -- `frame_line` meets its contract: the header that was read has its line, and so has a refusal.
 -- Assumes nothing.
 use Rattle.action_frame.specs.Said.{saidFrame}
-use Rattle.report.proofs.Laid.{shows-line}
+use Rattle.report.proofs.Room.{shows-line}
 use Rattle.report.proofs.marks.frame_line.Statement.{statement}
 use Rattle.report.proofs.marks.frame_line.Tie as tie
 use Rattle.report.specs.Marks.{atHeader}

@@ -1,6 +1,6 @@
 -- `item_line` meets its contract: the tests and the step that led to a line are those of `atPlace`.
 -- Assumes nothing.
-use Rattle.report.proofs.Laid.{shows-line}
+use Rattle.report.proofs.Room.{shows-line}
 use Rattle.report.proofs.Places.{no-line, too-many, past-end, steps-to}
 use Rattle.report.proofs.marks.item_line.Statement.{statement}
 use Rattle.report.proofs.marks.item_line.Tie as tie

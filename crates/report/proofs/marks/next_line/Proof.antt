@@ -1,6 +1,6 @@
 -- `next_line` meets its contract: each mark has the line of the function that it is handed to.
 -- Assumes nothing.
-use Rattle.report.proofs.Laid.{shows-line}
+use Rattle.report.proofs.Room.{shows-line}
 use Rattle.report.proofs.marks.next_line.Statement.{statement}
 use Rattle.report.proofs.marks.next_line.Tie as tie
 use Rattle.report.specs.Marks.{standsAt}

@@ -3,7 +3,7 @@
 use Prim.Native.Nat.{ℕ, _<_}
 use native.Mathlib.Omega.{arith}
 use mathlib.Core.Path.{_∙_}
-use Rattle.report.proofs.Laid.{laid-one, laid-more, tenth-room}
+use Rattle.report.proofs.Room.{room-one, room-more, tenth-room}
 use borrow.Fn.Kinds.{In}
 use borrow.Fn.PlainCycle.{Measures, is, falls, and}
 use Rattle.report.proofs.text.put_decimal.Reads as put-decimal
@@ -64,7 +64,7 @@ put-decimal-returns : (t : ℕ) → put-decimal-lts.Need-returns (
   put-decimal.Post,
 ) (put-decimal-at t) put-decimal.Post
 put-decimal-returns t c =
-    laid-one (c .before .before .put-u8 .ensures) (c .before .before .before .digit .ensures)
+    room-one (c .before .before .put-u8 .ensures) (c .before .before .before .digit .ensures)
     (c .before .before .before .before .before .if1 .taken) (c .before .before .before .before .before .before .before .pre .1)
 
 put-decimal-put-decimal-requires : (t : ℕ) → put-decimal-lts.Need-put-decimal-requires (
@@ -119,7 +119,7 @@ put-decimal-returns-2 : (t : ℕ) → put-decimal-lts.Need-returns-2 (
   put-decimal.Post,
 ) (put-decimal-at t) put-decimal.Post
 put-decimal-returns-2 t c =
-    laid-more (c .before .before .before .before .before .before .before .put-decimal .ensures) (c .before .before .put-u82 .ensures) (c .before .before .before .digit2 .ensures)
+    room-more (c .before .before .before .before .before .before .before .put-decimal .ensures) (c .before .before .put-u82 .ensures) (c .before .before .before .digit2 .ensures)
     (c .before .before .before .before .before .before .before .before .before .if1 .left) (c .before .before .before .before .before .before .before .before .before .before .before .pre .1)
 
 pub +put-decimal-spec : {M : Type 1} → statement M

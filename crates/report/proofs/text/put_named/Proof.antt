@@ -1,7 +1,7 @@
 -- `put_named` meets its contract: the word, and behind it no more than twenty digits.
 -- Assumes nothing.
 use Rattle.report.proofs.Digits.{twenty-digits}
-use Rattle.report.proofs.Laid.{laid-put, laid-then, laid-next, laid-kept}
+use Rattle.report.proofs.Room.{room-put, room-then, room-next, room-kept}
 use Rattle.report.proofs.text.put_named.Statement.{statement}
 use Rattle.report.proofs.text.put_named.Tie as tie
 use borrow.Author.Needs.{needs}
@@ -15,9 +15,9 @@ put-decimal-requires c κs =
     let start = c .before .before .before .before .before .before .before in
     let few = twenty-digits (start .args .n) (start .good .1 .1 .1 .0 .1) in
     let room = start .pre in
-    let word = laid-put (c .before .before .before .put-slice .ensures) (omega arith) in
-    let next = laid-next word in
-    let kept = laid-kept word in
+    let word = room-put (c .before .before .before .put-slice .ensures) (omega arith) in
+    let next = room-next word in
+    let kept = room-kept word in
     omega arith
 
 same-length : tie.Need-same-length
@@ -28,11 +28,11 @@ returns c =
     let start = c .before .before .before .before .before .before .before .before .before .before in
     let few = twenty-digits (start .args .n) (start .good .1 .1 .1 .0 .1) in
     let room = start .pre in
-    let word = laid-put (c .before .before .before .before .before .before .put-slice .ensures) (omega arith) in
+    let word = room-put (c .before .before .before .before .before .before .put-slice .ensures) (omega arith) in
     let digits = c .before .before .put-decimal .ensures in
-    let next = laid-next word in
-    let end = laid-next digits in
-    (laid-then word digits, omega arith)
+    let next = room-next word in
+    let end = room-next digits in
+    (room-then word digits, omega arith)
 
 pub put-named-spec : {M : Type 1} → statement M
 put-named-spec = tie.close (tie.spec put-slice-requires put-decimal-requires same-length returns)

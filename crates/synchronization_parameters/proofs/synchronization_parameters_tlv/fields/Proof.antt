@@ -1,6 +1,6 @@
 -- `fields` meets its contract: the bytes and words that it takes are those of `fieldsOf`, which is read where 33 bytes stand.
 -- Assumes nothing.
-use Rattle.synchronization_parameters.proofs.Whole.{whole}
+use Rattle.synchronization_parameters.proofs.Whole.{all-fields}
 use Rattle.synchronization_parameters.proofs.synchronization_parameters_tlv.fields.Statement.{statement}
 use Rattle.synchronization_parameters.proofs.synchronization_parameters_tlv.fields.Tie as tie
 use borrow.Author.Needs.{needs}
@@ -92,7 +92,7 @@ returns c =
       c7 .word7 .ensures,
       c .before .word8 .ensures,
       c .word9 .ensures,
-    ) (whole (start .args .s .now) (start .pre)))
+    ) (all-fields (start .args .s .now) (start .pre)))
 
 pub fields-spec : {M : Type 1} → statement M
 fields-spec =

@@ -2,7 +2,7 @@
 -- Assumes nothing.
 use Prim.Native.Nat.{_-_, _≤_}
 use Rattle.tlvs.proofs.Steps.{step-stands}
-use Rattle.tlvs.proofs.Walks.{Counted, counted-none, counted-item, counted-all}
+use Rattle.tlvs.proofs.Walks.{CountedTo, counted-none, counted-item, counted-all}
 use Rattle.tlvs.proofs.walk.end.Statement.{statement}
 use Rattle.tlvs.proofs.walk.end.Tie as tie
 use Rattle.tlvs.specs.Items.{stepAt}
@@ -14,7 +14,7 @@ use mathlib.Core.Path.{_≡_, sym, _∙_}
 use native.Mathlib.Omega.{arith}
 
 abbrev Inv-loop : tie.InvT-loop
-Inv-loop tail at₀ items₀ at items = Counted tail at items × (at ≤ length tail) × (items ≤ at)
+Inv-loop tail at₀ items₀ at items = CountedTo tail at items × (at ≤ length tail) × (items ≤ at)
 
 abbrev μ-loop : tie.MeasureT-loop
 μ-loop tail at₀ items₀ at items = length tail - at

@@ -3,7 +3,7 @@
 use Prim.Native.Nat.{ℕ}
 use Rattle.tlvs.proofs.walk.value.Statement.{statement}
 use Rattle.tlvs.proofs.walk.value.Tie as tie
-use Rattle.wire.proofs.Bytes.{Placed, placed, unplaced}
+use Rattle.wire.proofs.Bytes.{PlacedField, placed, unplaced}
 use Rattle.wire.proofs.Places.{field-past}
 use Rattle.wire.specs.Parts.{partAt}
 use Rattle.wire.specs.Reading.{field}
@@ -14,12 +14,12 @@ use native.Mathlib.Nat.{zero-add}
 use native.Mathlib.Omega.{arith}
 
 -- the item's first three bytes, and its value behind them
-head : (c : tie.After-known-told) → Placed 3 (c .before .before .before .before .before .args .tail .now) (c .before .before .before .before .before .args .item .at) (c .before .start .given .0 .0)
+head : (c : tie.After-known-told) → PlacedField 3 (c .before .before .before .before .before .args .tail .now) (c .before .before .before .before .before .args .item .at) (c .before .start .given .0 .0)
 head c = placed _ _ _ (ap saidPlace (sym (c .before .start .given .1)) ∙ c .before .before .before .field-at .ensures)
 
 part : (c : tie.After-known-told2) →
     let a = c .before .before .before .before .before .before .before .before .before .args in
-    Placed (a .item .length) (a .tail .now) (c .before .before .before .before .before .start .given .0 .0) (c .before .next .given .0 .0)
+    PlacedField (a .item .length) (a .tail .now) (c .before .before .before .before .before .start .given .0 .0) (c .before .next .given .0 .0)
 part c = placed _ _ _ (ap saidPlace (sym (c .before .next .given .1)) ∙ c .before .before .before .field-at2 .ensures)
 
 -- a part from the start on lies where the slice does

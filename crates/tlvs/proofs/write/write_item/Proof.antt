@@ -1,7 +1,7 @@
 -- `write_item` meets its contract: the three runs, one behind the other, are the item's bytes, after the size and the room were settled.
 -- Assumes nothing.
 use Prim.Native.Nat.{_≤_}
-use Rattle.tlvs.proofs.Sizes.{Sized, sized, sized-bytes, laid-length, size-length}
+use Rattle.tlvs.proofs.Sizes.{ItemSized, item-sized, sized-bytes, item-length, size-length}
 use Rattle.tlvs.proofs.write.write_item.Statement.{statement}
 use Rattle.tlvs.proofs.write.write_item.Tie as tie
 use Rattle.tlvs.specs.ItemBytes.{itemBytes}
@@ -17,11 +17,11 @@ use native.Mathlib.Omega.{arith}
 settled : (c : tie.After-known-told) →
     let a = c .before .before .before .before .before .before .before .args in
     let n = c .before .n .given .0 .0 in
-    Sized (length (a .value .now)) n × (n ≤ length (a .buf .now))
+    ItemSized (length (a .value .now)) n × (n ≤ length (a .buf .now))
 settled c =
     let said = ap saidSize (sym (c .before .n .given .1)) ∙ c .before .before .before .within .ensures in
     let room = within-room _ _ (rw (c .before .before .before .before .item-size .ensures) at said) in
-    (sized _ (room .0), room .1)
+    (item-sized _ (room .0), room .1)
 
 item-size-requires : tie.Need-item-size-requires
 item-size-requires c κs = search needs
@@ -56,7 +56,7 @@ returns c =
     let room = settled (c .before .before .before .before .before .before .before .before .before .before .before .before) in
     let head = put-then (c .before .before .before .before .before .before .before .before .before .before .put-u8 .ensures) (c .before .before .before .before .before .before .put-u16 .ensures) (omega (arith, room)) in
     let all = put-then head (c .before .before .put-slice .ensures) (omega (arith, room)) in
-    rw (sized-bytes (a .tlv-type) (a .value .now) (room .0 .short)) (wrote-all all (laid-length (a .tlv-type) (a .value .now) ∙ sym (room .0 .bytes)) (room .1))
+    rw (sized-bytes (a .tlv-type) (a .value .now) (room .0 .short)) (wrote-all all (item-length (a .tlv-type) (a .value .now) ∙ sym (room .0 .bytes)) (room .1))
 
 returns-2 : tie.Need-returns-2
 returns-2 c =

@@ -5,7 +5,7 @@ use Rattle.channel_sequence.proofs.channel_sequence.ChannelSequence.rea
 use Rattle.channel_sequence.proofs.channel_sequence.ChannelSequence.read.Tie as tie
 use Rattle.channel_sequence.specs.Channels.{entrySize}
 use Rattle.channel_sequence.specs.Said.{saidEncoding}
-use Rattle.wire.proofs.Bytes.{Placed, placed, unplaced}
+use Rattle.wire.proofs.Bytes.{PlacedField, placed, unplaced}
 use Rattle.wire.specs.Reading.{field}
 use Rattle.wire.specs.Said.{saidPlace}
 use borrow.Author.Needs.{needs}
@@ -15,7 +15,7 @@ use native.Mathlib.Omega.{arith}
 -- where the field's place was given, it is the part that is taken
 part : (c : tie.After-known-told2) →
     let a = c .before .before .before .before .before .before .before .before .before .before .args in
-    Placed (16 * entrySize (c .before .before .before .before .before .before .known .given .0 .0)) (a .s .now) (a .at) (c .before .next .given .0 .0)
+    PlacedField (16 * entrySize (c .before .before .before .before .before .before .known .given .0 .0)) (a .s .now) (a .at) (c .before .next .given .0 .0)
 part c =
     let said = ap saidPlace (sym (c .before .next .given .1)) ∙ c .before .before .before .field-at .ensures in
     placed _ _ _ (rw (c .before .before .before .before .size-in .ensures) at said)

@@ -1,7 +1,7 @@
 -- `ChannelSequence::write` meets its contract: what is put is the bytes on the wire, after the size and the room were settled.
 -- Assumes nothing.
 use Prim.Native.Nat.{_≤_}
-use Rattle.channel_sequence.proofs.Entries.{sized, size-most, wire-bytes, size-length}
+use Rattle.channel_sequence.proofs.Entries.{sequence-sized, size-most, wire-bytes, size-length}
 use Rattle.channel_sequence.proofs.channel_sequence.ChannelSequence.write.Statement.{statement}
 use Rattle.channel_sequence.proofs.channel_sequence.ChannelSequence.write.Tie as tie
 use Rattle.channel_sequence.specs.Sequences.{sizeOf, bytesOf}
@@ -26,7 +26,7 @@ settled c =
 
 whole : (c : tie.After-known-told) → c .before .n .given .0 .0 ≤ length (c .before .before .before .before .before .before .before .args .self .bytes)
 whole c =
-    let w = sized (c .before .before .before .before .before .before .before .args .self) (settled c .0) in
+    let w = sequence-sized (c .before .before .before .before .before .before .before .args .self) (settled c .0) in
     let most = size-most (w .encoding) in
     let all : length (c .before .before .before .before .before .before .before .args .self .bytes) ≡ 32 = search needs in
     omega arith
@@ -59,7 +59,7 @@ returns : tie.Need-returns
 returns c =
     let room = settled (c .before .before .before .before .before) in
     let part = length-take-le (c .before .before .before .before .before .before .n .given .0 .0) (c .before .before .before .before .before .before .before .before .before .before .before .before .args .self .bytes) (whole (c .before .before .before .before .before)) in
-    rw (wire-bytes (sized (c .before .before .before .before .before .before .before .before .before .before .before .before .args .self) (room .0))) (wrote-all (c .before .before .put-slice .ensures) part (room .1))
+    rw (wire-bytes (sequence-sized (c .before .before .before .before .before .before .before .before .before .before .before .before .args .self) (room .0))) (wrote-all (c .before .before .put-slice .ensures) part (room .1))
 
 returns-2 : tie.Need-returns-2
 returns-2 c =

@@ -1,7 +1,7 @@
 -- `DataPathStateTLV::write` meets its contract: what is put is the record laid down, after the size and the room were settled.
 -- Assumes nothing.
 use Prim.Native.Nat.{_≤_}
-use Rattle.data_path_state.proofs.Sizes.{sized, size-length}
+use Rattle.data_path_state.proofs.Sizes.{record-sized, size-length}
 use Rattle.data_path_state.proofs.data_path_state_tlv.DataPathStateTLV.write.Statement.{statement}
 use Rattle.data_path_state.proofs.data_path_state_tlv.DataPathStateTLV.write.Tie as tie
 use Rattle.data_path_state.specs.Bytes.{bytesOf, sizeOf}
@@ -44,7 +44,7 @@ same-length c = search needs
 returns : tie.Need-returns
 returns c =
     let room = settled (c .before .before .before .before) in
-    let w = sized (c .before .before .before .before .before .before .before .before .before .before .args .self) (room .0) in
+    let w = record-sized (c .before .before .before .before .before .before .before .before .before .before .args .self) (room .0) in
     rw (w .right) (wrote-all (c .before .before .put-record .ensures (omega (arith, room .1, w .size))) (sym (w .size)) (room .1))
 
 returns-2 : tie.Need-returns-2

@@ -11,32 +11,32 @@ use Rattle.wire.proofs.Stores.{put-fits, put-then, put-all}
 use Rattle.report.specs.declared.marks.Mark.{Mark}
 use Rattle.report.specs.declared.marks.Line.{Line}
 use Rattle.report.specs.Marks.{Stand, line}
-use Rattle.report.specs.Shown.{Laid, Shows}
+use Rattle.report.specs.Shown.{PutWithRoom, Shows}
 use Rattle.report.specs.Text.{decimal}
 use Rattle.report.proofs.Digits.{one-digit, last-digit}
 
-pub laid-then : {s : List ℕ} {at : ℕ} {xs : List ℕ} {mid : ℕ} {t : List ℕ} {ys : List ℕ} {next : ℕ} {u : List ℕ}
-    → Laid s at xs mid t → Laid t mid ys next u → Laid s at (xs ++ ys) next u
-laid-then {s} {at} {xs} {mid} {t} {ys} p q =
+pub room-then : {s : List ℕ} {at : ℕ} {xs : List ℕ} {mid : ℕ} {t : List ℕ} {ys : List ℕ} {next : ℕ} {u : List ℕ}
+    → PutWithRoom s at xs mid t → PutWithRoom t mid ys next u → PutWithRoom s at (xs ++ ys) next u
+room-then {s} {at} {xs} {mid} {t} {ys} p q =
     let first = put-fits (p .put) (p .room) in
     let behind = q .room in
     let room : at + (length xs + length ys) ≤ length s = omega arith in
     record { put = put-then (p .put) (q .put) room; room = rw (length-append xs ys) room }
 
 -- the place behind is as far on as there are bytes
-pub laid-next : {s : List ℕ} {at : ℕ} {bytes : List ℕ} {next : ℕ} {t : List ℕ} → Laid s at bytes next t → next ≡ at + length bytes
-laid-next p = put-fits (p .put) (p .room) .0
+pub room-next : {s : List ℕ} {at : ℕ} {bytes : List ℕ} {next : ℕ} {t : List ℕ} → PutWithRoom s at bytes next t → next ≡ at + length bytes
+room-next p = put-fits (p .put) (p .room) .0
 
-pub laid-kept : {s : List ℕ} {at : ℕ} {bytes : List ℕ} {next : ℕ} {t : List ℕ} → Laid s at bytes next t → length t ≡ length s
-laid-kept p = put-fits (p .put) (p .room) .2
+pub room-kept : {s : List ℕ} {at : ℕ} {bytes : List ℕ} {next : ℕ} {t : List ℕ} → PutWithRoom s at bytes next t → length t ≡ length s
+room-kept p = put-fits (p .put) (p .room) .2
 
-pub laid-put : {s : List ℕ} {at : ℕ} {bytes : List ℕ} {next : ℕ} {t : List ℕ} → Put s at bytes next t → at + length bytes ≤ length s
-    → Laid s at bytes next t
-laid-put p h = record { put = p; room = h }
+pub room-put : {s : List ℕ} {at : ℕ} {bytes : List ℕ} {next : ℕ} {t : List ℕ} → Put s at bytes next t → at + length bytes ≤ length s
+    → PutWithRoom s at bytes next t
+room-put p h = record { put = p; room = h }
 
 -- one digit
 laid-digit : {s : List ℕ} {at v d next : ℕ} {t : List ℕ} → Put s at (littleBytes 1 v) next t → v ≡ 48 + d → d < 10 → at < length s
-    → Laid s at ((48 + d) ∷ []) next t
+    → PutWithRoom s at ((48 + d) ∷ []) next t
 laid-digit {s} {at} {v} {d} {next} {t} p e small h =
     let byte : v % 256 ≡ 48 + d = omega arith in
     record { put = rw byte at p; room = omega arith }
@@ -48,23 +48,23 @@ tenth-room at n big h =
     omega arith
 
 -- a number of one digit, and one of more
-pub laid-one : {s : List ℕ} {at v n next : ℕ} {t : List ℕ} → Put s at (littleBytes 1 v) next t → v ≡ 48 + n → n < 10
-    → at + length (decimal n) ≤ length s → Laid s at (decimal n) next t
-laid-one {s} {at} {v} {n} p e small h =
+pub room-one : {s : List ℕ} {at v n next : ℕ} {t : List ℕ} → Put s at (littleBytes 1 v) next t → v ≡ 48 + n → n < 10
+    → at + length (decimal n) ≤ length s → PutWithRoom s at (decimal n) next t
+room-one {s} {at} {v} {n} p e small h =
     let one = one-digit n small in
     let many = ap length one in
     rw one (laid-digit p e small (omega arith))
 
-pub laid-more : {s : List ℕ} {at n mid : ℕ} {t : List ℕ} {v next : ℕ} {u : List ℕ} → Laid s at (decimal (n / 10)) mid t
-    → Put t mid (littleBytes 1 v) next u → v ≡ 48 + n % 10 → 10 ≤ n → at + length (decimal n) ≤ length s → Laid s at (decimal n) next u
-laid-more {s} {at} {n} {mid} {t} p q e big h =
-    let behind = laid-next p in
-    let kept = laid-kept p in
+pub room-more : {s : List ℕ} {at n mid : ℕ} {t : List ℕ} {v next : ℕ} {u : List ℕ} → PutWithRoom s at (decimal (n / 10)) mid t
+    → Put t mid (littleBytes 1 v) next u → v ≡ 48 + n % 10 → 10 ≤ n → at + length (decimal n) ≤ length s → PutWithRoom s at (decimal n) next u
+room-more {s} {at} {n} {mid} {t} p q e big h =
+    let behind = room-next p in
+    let kept = room-kept p in
     let room = tenth-room at n big h in
-    rw (last-digit n big) (laid-then p (laid-digit q e (omega arith) (omega arith)))
+    rw (last-digit n big) (room-then p (laid-digit q e (omega arith) (omega arith)))
 
 -- a line from the buffer's start is what is shown of what stands at a mark
-pub shows-line : {s : List ℕ} {stand : Stand} {l : List ℕ} {n : ℕ} {next : Mark} {t : List ℕ} → stand ≡ line l next → Laid s 0 l n t
+pub shows-line : {s : List ℕ} {stand : Stand} {l : List ℕ} {n : ℕ} {next : Mark} {t : List ℕ} → stand ≡ line l next → PutWithRoom s 0 l n t
     → Shows s stand (Line.Text n next) t
 shows-line {s} {stand} {l} {n} {next} {t} e p =
     let room = p .room in

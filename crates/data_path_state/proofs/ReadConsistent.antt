@@ -11,10 +11,10 @@ use Rattle.wire.specs.declared.refusal.Refusal.the-variants.{UnicastLength}
 use Rattle.wire.specs.Reading.{field, when}
 use Rattle.wire.specs.Numbers.{number, bit, bits}
 use Rattle.wire.specs.Addresses.{address}
-use Rattle.wire.specs.Words.{laid}
+use Rattle.wire.specs.Words.{wordBy}
 use Rattle.wire.proofs.Gives.{Gives, gives-any, gives-give, gives-refuse, gives-bind, gives-when, gives-cond}
 use Rattle.wire.proofs.Tests.{joined, same-as}
-use Rattle.wire.proofs.Words.{laid-twice}
+use Rattle.wire.proofs.Words.{word-twice}
 use Rattle.data_path_fields.specs.declared.misc.DataPathChannel.{DataPathChannel}
 use Rattle.data_path_fields.specs.declared.fields.OptionalAddress.{OptionalAddress}
 use Rattle.data_path_fields.specs.declared.fields.OptionalWord.{OptionalWord}
@@ -26,7 +26,7 @@ use Rattle.data_path_fields.specs.declared.read.Body.{Body}
 use Rattle.data_path_fields.specs.Words.{extendedKept, optionsKept, channelOf}
 use Rattle.data_path_fields.specs.Fields.{noCountry, noChannel, head, noInfra, noAddress, oneAddress, addresses, noWord, oneWord, optionsAnd, noUnicast, unicast}
 use Rattle.data_path_fields.specs.Fields.{noTriggerId, noStats, stats, noExtended, extendedOf, extended, body}
-use Rattle.data_path_state.specs.DataPath.{whole, dataPath}
+use Rattle.data_path_state.specs.DataPath.{recordOf, dataPath}
 use Rattle.data_path_state.specs.Consistent.{isZeroAddress, isZeroChannel, isZeroStats, channelRight, consistent}
 
 -- there exactly where the bit is set, and zero elsewhere
@@ -94,7 +94,7 @@ addresses-gives flags =
 
 record UnicastRight (b : Bool) (u : Unicast) : Type 0 where
   options : Is b (u .options .present) (eqb (u .options .options .0) 0)
-  kept : eqb (laid optionsKept (u .options .options .0)) (u .options .options .0) ≡ true
+  kept : eqb (wordBy optionsKept (u .options .options .0)) (u .options .options .0) ≡ true
   ext : (u .ext .present || eqb (u .ext .word) 0) ≡ true
   only : (not (u .ext .present) || u .options .present) ≡ true
 
@@ -108,7 +108,7 @@ options-gives b second e =
     gives-bind (one-word-gives second) λ ext x.
     gives-give _ (record {
       options = (e, refl);
-      kept = eq-eqb (laid optionsKept (laid optionsKept word)) (laid optionsKept word) (laid-twice optionsKept word);
+      kept = eq-eqb (wordBy optionsKept (wordBy optionsKept word)) (wordBy optionsKept word) (word-twice optionsKept word);
       ext = x .1;
       only = or-true (not (ext .present));
     })
@@ -122,7 +122,7 @@ unicast-gives b =
 
 record ExtendedRight (b : Bool) (x : Extended) : Type 0 where
   flags : Is b (x .flags .present) (eqb (x .flags .flags .0) 0)
-  kept : eqb (laid extendedKept (x .flags .flags .0)) (x .flags .flags .0) ≡ true
+  kept : eqb (wordBy extendedKept (x .flags .flags .0)) (x .flags .flags .0) ≡ true
   trigger : Is (bit 0 (x .flags .flags .0)) (x .trigger .present) (eqb (x .trigger .id) 0)
   rlfc : WordIs (bit 2 (x .flags .flags .0)) (x .rlfc)
   stats : Is (bit 5 (x .flags .flags .0)) (x .stats .present) (isZeroStats (x .stats .stats))
@@ -130,9 +130,9 @@ record ExtendedRight (b : Bool) (x : Extended) : Type 0 where
   rlfc-only : (not (x .rlfc .present) || x .flags .present) ≡ true
   stats-only : (not (x .stats .present) || x .flags .present) ≡ true
 
-extended-of-gives : (b : Bool) (word : ℕ) → b ≡ true → Gives (extendedOf (laid extendedKept word)) (ExtendedRight b)
+extended-of-gives : (b : Bool) (word : ℕ) → b ≡ true → Gives (extendedOf (wordBy extendedKept word)) (ExtendedRight b)
 extended-of-gives b word e =
-    let w = laid extendedKept word in
+    let w = wordBy extendedKept word in
     gives-bind {Q = λ t. Is (bit 0 w) (t .present) (eqb (t .id) 0)}
     (gives-when (bit 0 w) noTriggerId (λ p. gives-bind (gives-any (number 2)) λ id _. gives-give _ (p, refl)) (λ p. (p, refl))) λ trigger t.
     gives-bind (one-word-gives (bit 2 w)) λ rlfc f.
@@ -142,7 +142,7 @@ extended-of-gives b word e =
     (λ p. (p, refl))) λ stats s.
     gives-give _ (record {
       flags = (e, refl);
-      kept = eq-eqb (laid extendedKept w) w (laid-twice extendedKept word);
+      kept = eq-eqb (wordBy extendedKept w) w (word-twice extendedKept word);
       trigger = t;
       rlfc = f;
       stats = s;
@@ -178,7 +178,7 @@ body-gives flags =
     gives-bind (extended-gives (bit 15 flags)) λ extended x.
     gives-give _ (record { addresses = a; unicast = u; extended = x })
 
-whole-right : (h : Head) (b : Body) → HeadRight h → BodyRight (h .flags) b → consistent (whole h b) ≡ true
+whole-right : (h : Head) (b : Body) → HeadRight h → BodyRight (h .flags) b → consistent (recordOf h b) ≡ true
 unfolding consistent
 whole-right h b p q =
     let a = q .addresses in
