@@ -1,14 +1,15 @@
--- A slice that is copied byte after byte leaves what `putting` says; putting one run behind another is putting both at once.
+-- Bytes that are stored one after the other leave what `putting` says, in a loop or written out; putting one run behind another is
+-- putting both at once.
 -- Assumes nothing.
-use Prim.Native.Nat.{ℕ, _+_, _-_, _≤_, _<_}
-use native.Mathlib.Nat.{add-zero, zero-add, add-assoc}
+use Prim.Native.Nat.{ℕ, zero, suc, _+_, _-_, _≤_, _<_}
+use native.Mathlib.Nat.{add-zero, zero-add, add-assoc, add-suc, suc-add}
 use native.Mathlib.Omega.{arith}
 use mathlib.Core.Path.{_≡_, refl, sym, ap, _∙_}
 use mathlib.Core.Bool.{Bool, true, false, cond}
 use mathlib.Core.List.{List, [], _++_, append-assoc, append-nil}
 use lib.Dec.{leb}
-use lib.ListN.{length, take, drop, length-append, length-take, length-drop, take-append-drop}
-use lib.Seq.{paste, paste-zero, take-length, take-at, drop-append-add, drop-drop}
+use lib.ListN.{length, getD, set, take, drop, length-append, length-take, length-drop, take-append-drop}
+use lib.Seq.{paste, paste-zero, paste-suc, take-length, take-at, drop-append-add, drop-drop}
 use borrow.Author.Tests.{le-leb, lt-leb, leb-true, leb-false}
 use Rattle.wire.specs.declared.refusal.Refusal.{Refusal}
 use Rattle.wire.specs.Answer.{Answer, answer, refusal}
@@ -31,6 +32,26 @@ put-pasted s at bytes h = go (fits s at bytes) refl
         let past : length s < at + length bytes = leb-false (at + length bytes) (length s) e in
         let none : length bytes ≡ 0 = omega arith in
         record { place = rw e (omega arith); buffer = rw (e, none) (sym (paste-zero s at bytes)) }
+
+-- what stores that are written out leave: n of the bytes, from the k-th on, each at its place
+abbrev pub stored : List ℕ → ℕ → List ℕ → ℕ → ℕ → List ℕ
+stored s at bytes k zero = s
+stored s at bytes k (suc n) = stored (set s (at + k) (getD bytes k 0)) at bytes (suc k) n
+
+-- each store is a turn of the loop that copies
+stored-pasted : (s : List ℕ) (at : ℕ) (bytes : List ℕ) (k n : ℕ) → at + (k + n) ≤ length s → k + n ≤ length bytes
+    → stored (paste s at bytes k) at bytes k n ≡ paste s at bytes (k + n)
+stored-pasted s at bytes k zero h m = rw (add-zero k)
+stored-pasted s at bytes k (suc n) h m =
+    rw (paste-suc s at bytes k 0 (omega arith) (omega arith), add-suc k n, ← suc-add k n)
+    (stored-pasted s at bytes (suc k) n (omega arith) (omega arith))
+
+-- the whole of some bytes, at every width; the first is stored at the place itself, with no sum
+pub put-stored : (n : ℕ) (s : List ℕ) (at : ℕ) (bytes : List ℕ) → length bytes ≡ suc n → suc n ≤ length s - at
+    → Put s at bytes (at + suc n) (stored (set s at (getD bytes 0 0)) at bytes 1 n)
+put-stored n s at bytes e h =
+    let copied = stored-pasted s at bytes 0 (suc n) (omega arith) (omega arith) in
+    rw (rw (← paste-zero s at bytes, zero-add, add-zero) at copied) (rw e at (put-pasted s at bytes (omega arith)))
 
 -- bytes that fit stand in the buffer, with all before and behind them kept
 pub put-fits : {s : List ℕ} {at : ℕ} {bytes : List ℕ} {next : ℕ} {t : List ℕ} → Put s at bytes next t → at + length bytes ≤ length s

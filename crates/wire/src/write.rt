@@ -65,26 +65,54 @@ pub fn put_slice(buf: &mut [u8], at: usize, bytes: &[u8]) -> usize
     at + n
 }
 
+// What has a known width is stored without a loop: the room is tested once, for all of its bytes.
 pub fn put_u8(buf: &mut [u8], at: usize, v: u8) -> usize
     ensures { λ r. ⌜ Put (now (buf .entry)) at (littleBytes 1 v) r (now (buf .exit)) ⌝ }
 {
-    put_slice(buf, at, &[v])
+    if left(buf.len(), at) < 1 {
+        return at;
+    }
+    buf[at] = v;
+    at + 1
 }
 
 pub fn put_u16(buf: &mut [u8], at: usize, v: u16) -> usize
     ensures { λ r. ⌜ Put (now (buf .entry)) at (littleBytes 2 v) r (now (buf .exit)) ⌝ }
 {
-    put_slice(buf, at, &u16_bytes(v))
+    if left(buf.len(), at) < 2 {
+        return at;
+    }
+    let b = u16_bytes(v);
+    buf[at] = b[0];
+    buf[at + 1] = b[1];
+    at + 2
 }
 
 pub fn put_u32(buf: &mut [u8], at: usize, v: u32) -> usize
     ensures { λ r. ⌜ Put (now (buf .entry)) at (littleBytes 4 v) r (now (buf .exit)) ⌝ }
 {
-    put_slice(buf, at, &u32_bytes(v))
+    if left(buf.len(), at) < 4 {
+        return at;
+    }
+    let b = u32_bytes(v);
+    buf[at] = b[0];
+    buf[at + 1] = b[1];
+    buf[at + 2] = b[2];
+    buf[at + 3] = b[3];
+    at + 4
 }
 
 pub fn put_address(buf: &mut [u8], at: usize, v: MACAddress) -> usize
     ensures { λ r. ⌜ Put (now (buf .entry)) at (addressBytes v) r (now (buf .exit)) ⌝ }
 {
-    put_slice(buf, at, &[v.0, v.1, v.2, v.3, v.4, v.5])
+    if left(buf.len(), at) < 6 {
+        return at;
+    }
+    buf[at] = v.0;
+    buf[at + 1] = v.1;
+    buf[at + 2] = v.2;
+    buf[at + 3] = v.3;
+    buf[at + 4] = v.4;
+    buf[at + 5] = v.5;
+    at + 6
 }
