@@ -24,6 +24,7 @@ use data_path_fields::OptionalTriggerId;
 use data_path_fields::OptionalWord;
 use data_path_fields::ReadBody;
 use data_path_fields::ReadHead;
+use wire::AWDLTLVType;
 use wire::Refusal;
 use wire::Size;
 
@@ -49,7 +50,7 @@ pub enum ReadDataPathState {
 }
 
 impl DataPathStateTLV {
-    pub const TLV_TYPE: u8 = 0x0C;
+    pub const TLV_TYPE: u8 = AWDLTLVType::DATA_PATH_STATE;
 
     pub const MIN_SIZE: usize = 2;
 

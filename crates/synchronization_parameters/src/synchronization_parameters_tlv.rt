@@ -9,6 +9,7 @@ ghost use Rattle.wire.specs.Writing.{Put, Wrote};
 ghost use Rattle.synchronization_parameters.specs.SynchronizationReader.{synchronization};
 ghost use Rattle.synchronization_parameters.specs.SynchronizationBytes.{bytesOf};
 ghost use Rattle.synchronization_parameters.specs.Said.{synchronizationRead};
+use wire::AWDLTLVType;
 use wire::MACAddress;
 use wire::Place;
 use wire::ReadU16;
@@ -47,7 +48,7 @@ pub struct ReadSynchronization {
 const WIDTHS: [usize; 18] = [1, 2, 1, 1, 2, 2, 2, 2, 2, 2, 1, 1, 1, 1, 6, 2, 2, 2];
 
 impl SynchronizationParametersTLV {
-    pub const TLV_TYPE: u8 = 0x04;
+    pub const TLV_TYPE: u8 = AWDLTLVType::SYNCHRONIZATION_PARAMETERS;
 
     pub const MIN_SIZE: usize = 33;
 

@@ -1,13 +1,11 @@
 // The items of a frame's tail: their type numbers, the walk over them with its end report, the search for the
 // records of a type, and the writer of an item.
-mod awdl_tlv_type;
 mod item;
 mod read_tlvs;
 mod search;
 mod walk;
 mod write;
 
-pub use awdl_tlv_type::AWDLTLVType;
 pub use item::End;
 pub use item::Item;
 pub use item::Step;
@@ -22,4 +20,5 @@ pub use search::next_synchronization;
 pub use walk::end;
 pub use walk::step;
 pub use walk::value;
+pub use wire::AWDLTLVType;
 pub use write::write_item;

@@ -1,9 +1,11 @@
 // What the formats above this crate are read and written with: refusals, little-endian numbers and
-// addresses at a place of a slice, and stores into a lent buffer.
+// addresses at a place of a slice, stores into a lent buffer, and the type numbers of items.
+mod awdl_tlv_type;
 mod read;
 mod refusal;
 mod write;
 
+pub use awdl_tlv_type::AWDLTLVType;
 pub use read::MACAddress;
 pub use read::Place;
 pub use read::ReadAddress;
