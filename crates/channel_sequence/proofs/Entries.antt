@@ -1,30 +1,29 @@
--- How the tests and the keeping of flags go over a list from the front: what is left of the list decides, or is still to be kept.
+-- How tests go over a list from the front, and how entries are put behind one another: what is left of the list decides, or is still to be put.
 -- Assumes nothing.
 use Prim.Native.Nat.{ℕ, zero, suc, _+_, _-_, _*_, _≤_, _<_}
-use native.Mathlib.Nat.{add-zero, le-refl, sub-zero, zero-sub, suc-sub-suc}
+use native.Mathlib.Nat.{add-assoc, sub-zero, zero-sub, suc-sub-suc}
 use native.Mathlib.Numerals.{add-one, add-two}
 use native.Mathlib.Omega.{arith}
 use mathlib.Core.Path.{_≡_, refl, sym, ap, _∙_}
-use mathlib.Core.Bool.{Bool, true, false, _&&_}
+use mathlib.Core.Bool.{Bool, true, false, _&&_, and-true}
 use mathlib.Core.List.{List, [], _∷_, _++_, append-assoc, append-nil}
 use lib.Dec.{eqb}
 use lib.ListN.{length, getD, take, drop, set, replicate, length-set}
-use lib.Seq.{drop-cons, take-add, take-set-le, drop-set-lt, drop-set-add, take-suc-set, length-take-le}
+use lib.Seq.{drop-cons, drop-drop, take-suc-set, length-take-le}
 use Rattle.wire.specs.Answer.{Answer, answer, refusal}
 use Rattle.wire.specs.Writing.{Put, lengthOf}
 use Rattle.wire.proofs.Stores.{put-all}
 use Rattle.channel_sequence.specs.declared.channel.ChannelEncoding.{ChannelEncoding}
 use Rattle.channel_sequence.specs.declared.channel.ChannelEncoding.the-variants.{Simple, Legacy, OpClass}
 use Rattle.channel_sequence.specs.declared.channel_sequence.ChannelSequence.{ChannelSequence}
-use Rattle.channel_sequence.specs.Channels.{encodingOf, entrySize, keptFlags}
-use Rattle.channel_sequence.specs.Sequences.{allZero, flagsFit, allFlagsFit, padded, times, sizeOf, bytesOf, consistentBytes}
-use Rattle.channel_sequence.specs.SequenceReader.{keptEntries}
+use Rattle.channel_sequence.specs.Channels.{encodingOf, entrySize}
+use Rattle.channel_sequence.specs.Sequences.{allZero, flagsFit, allFlagsFit, padded, sizeOf, bytesOf, consistentBytes}
 
 -- what stands from a place on begins with the byte there, and with the two there
 one-at : (s : List ℕ) (i : ℕ) → i < length s → drop i s ≡ getD s i 0 ∷ drop (i + 1) s
 one-at s i h = rw (drop-cons s i 0 h, add-one i)
 
-two-at : (s : List ℕ) (i : ℕ) → i + 1 < length s → drop i s ≡ getD s i 0 ∷ getD s (i + 1) 0 ∷ drop (i + 2) s
+pub two-at : (s : List ℕ) (i : ℕ) → i + 1 < length s → drop i s ≡ getD s i 0 ∷ getD s (i + 1) 0 ∷ drop (i + 2) s
 two-at s i h =
     let second : drop (i + 1) s ≡ getD s (i + 1) 0 ∷ drop (i + 2) s = rw (drop-cons s (i + 1) 0 h, add-one i, add-two i) in
     rw (one-at s i (omega arith), second)
@@ -32,28 +31,23 @@ two-at s i h =
 pub zero-step : (s : List ℕ) (i : ℕ) → i < length s → allZero (drop i s) ≡ eqb (getD s i 0) 0 && allZero (drop (i + 1) s)
 zero-step s i h = rw (one-at s i h)
 
-pub flags-step : (s : List ℕ) (i : ℕ) → i + 1 < length s
-    → allFlagsFit (drop i s) ≡ flagsFit (getD s i 0) && allFlagsFit (drop (i + 2) s)
-flags-step s i h = rw (two-at s i h)
+-- and so for flags, in front of the entries behind their own
+first-flags : (flags : ℕ) (behind : List ℕ) → allFlagsFit (flags ∷ behind) ≡ flagsFit flags && allFlagsFit (drop 1 behind)
+first-flags flags [] = sym (and-true (flagsFit flags))
+first-flags flags (channel ∷ rest) = refl
 
--- a turn keeps one entry's flags, and leaves the rest to be kept
-pub keep-step : (s : List ℕ) (i : ℕ) → i + 1 < length s →
-    let t : List ℕ = set s i (keptFlags (getD s i 0)) in
-    take (i + 2) t ++ keptEntries (drop (i + 2) t) ≡ take i s ++ keptEntries (drop i s)
-keep-step s i h =
-    let a : ℕ = keptFlags (getD s i 0) in
+pub flags-step : (s : List ℕ) (i : ℕ) → i < length s → allFlagsFit (drop i s) ≡ flagsFit (getD s i 0) && allFlagsFit (drop (i + 2) s)
+flags-step s i h = rw (one-at s i h, first-flags (getD s i 0) (drop (i + 1) s), drop-drop 1 (i + 1) s, add-assoc i 1 1)
+
+-- a turn puts one entry behind what has been passed, and leaves the rest
+pub entry-step : (s : List ℕ) (i a b : ℕ) (rest : List ℕ) → i + 1 < length s
+    → take (i + 2) (set (set s i a) (i + 1) b) ++ rest ≡ take i s ++ a ∷ b ∷ rest
+entry-step s i a b rest h =
     let t : List ℕ = set s i a in
-    let here : drop i t ≡ a ∷ getD s (i + 1) 0 ∷ drop (i + 2) s =
-    ap (λ (k : ℕ). drop i (set s k a)) (sym (add-zero i)) ∙ drop-set-add i s 0 a ∙ rw (two-at s i h) in
-    let behind : drop (i + 2) t ≡ drop (i + 2) s = drop-set-lt (i + 2) s i a (omega arith) in
-    rw (
-      behind,
-      take-add i 2 t,
-      here,
-      take-set-le i s i a (le-refl i),
-      two-at s i h,
-      append-assoc (take i s) (a ∷ getD s (i + 1) 0 ∷ []) (keptEntries (drop (i + 2) s)),
-    )
+    let first : take (i + 1) t ≡ take i s ++ (a ∷ []) = rw (add-one i) (take-suc-set s i a (omega arith)) in
+    let both : take (i + 2) (set t (i + 1) b) ≡ take (i + 1) t ++ (b ∷ []) =
+    rw (add-two i, add-one i) (take-suc-set t (suc i) b (simp length-set (omega arith))) in
+    rw (both, first) (simp append-assoc)
 
 zeros-behind : (n k : ℕ) → drop {A = ℕ} k (replicate n 0) ≡ replicate (n - k) 0
 zeros-behind n zero = rw (sub-zero n)
@@ -66,23 +60,6 @@ padded-over {part} h p = put-all p h .1 ∙ ap (λ (z : List ℕ). part ++ z) (z
 
 pub padded-full : (bytes : List ℕ) → length bytes ≡ 32 → padded bytes ≡ bytes
 padded-full bytes e = rw e (append-nil bytes)
-
-pub length-kept : (s : List ℕ) → length (keptEntries s) ≡ length s
-length-kept [] = refl
-length-kept (flags ∷ []) = refl
-length-kept (flags ∷ channel ∷ rest) = ap (λ (n : ℕ). suc (suc n)) (length-kept rest)
-
--- a turn that fills one entry, and leaves the rest to be filled
-pub fill-step : (s : List ℕ) (i a b n : ℕ) → i + 1 < length s →
-    let entry : List ℕ = a ∷ b ∷ [] in
-    take (i + 2) (set (set s i a) (i + 1) b) ++ times n entry ≡ take i s ++ times (suc n) entry
-unfolding times
-fill-step s i a b n h =
-    let t : List ℕ = set s i a in
-    let first : take (i + 1) t ≡ take i s ++ (a ∷ []) = rw (add-one i) (take-suc-set s i a (omega arith)) in
-    let both : take (i + 2) (set t (i + 1) b) ≡ take (i + 1) t ++ (b ∷ []) =
-    rw (add-two i, add-one i) (take-suc-set t (suc i) b (simp length-set (omega arith))) in
-    rw (both, first) (simp append-assoc)
 
 -- a size that can be had: the encoding is listed, the bytes are consistent, and the size is that of sixteen entries
 pub record SequenceSized (q : ChannelSequence) (n : ℕ) : Type 0 where

@@ -9,7 +9,7 @@ use mathlib.Core.List.{List, [], _∷_, _++_}
 use lib.Dec.{eqb, leb}
 use lib.ListN.{length, take, drop, replicate, length-drop, take-append-drop}
 use lib.Seq.{length-take-le, take-all, drop-append-seam}
-use borrow.Author.Tests.{leb-true, le-leb, eqb-true}
+use borrow.Author.Tests.{le-leb, eqb-true}
 use Rattle.wire.specs.Reading.{read}
 use Rattle.wire.specs.Answer.{Answer, answer, refusal}
 use Rattle.wire.specs.Writing.{within, lengthOf, afterwards}
@@ -19,26 +19,17 @@ use Rattle.wire.proofs.ReadsBack.{Back, bind-back, asked-back, made-back, field
 use Rattle.channel_sequence.specs.declared.channel.ChannelEncoding.{ChannelEncoding}
 use Rattle.channel_sequence.specs.declared.channel.ChannelEncoding.the-variants.{Simple, Legacy, OpClass}
 use Rattle.channel_sequence.specs.declared.channel_sequence.ChannelSequence.{ChannelSequence}
-use Rattle.channel_sequence.specs.Channels.{encodingOf, entrySize, keptFlags}
-use Rattle.channel_sequence.specs.Sequences.{allZero, flagsFit, allFlagsFit, consistentBytes, consistent, sizeOf, bytesOf, padded}
-use Rattle.channel_sequence.specs.SequenceReader.{keptEntries, keptBytes, sequence}
+use Rattle.channel_sequence.specs.Channels.{encodingOf, entrySize}
+use Rattle.channel_sequence.specs.Sequences.{allZero, consistentBytes, consistent, sizeOf, bytesOf, padded}
+use Rattle.channel_sequence.specs.SequenceReader.{keptBytes, sequence}
 use Rattle.channel_sequence.proofs.Entries.{padded-full, size-most}
+use Rattle.channel_sequence.proofs.Flags.{entries-same}
 
 all-zero : (s : List ℕ) → allZero s ≡ true → s ≡ replicate (length s) 0
 all-zero [] e = refl
 all-zero (b ∷ rest) e =
     let p = both (eqb b 0) (allZero rest) e in
     ap₂ (λ (x : ℕ) (xs : List ℕ). x ∷ xs) (eqb-true b 0 (p .0)) (all-zero rest (p .1))
-
-flags-same : (flags : ℕ) → flagsFit flags ≡ true → keptFlags flags ≡ flags
-flags-same flags e = let small = leb-true flags 0x3F e in omega arith
-
-entries-same : (s : List ℕ) → allFlagsFit s ≡ true → keptEntries s ≡ s
-entries-same [] e = refl
-entries-same (flags ∷ []) e = ap (λ (x : ℕ). x ∷ []) (flags-same flags e)
-entries-same (flags ∷ channel ∷ rest) e =
-    let p = both (flagsFit flags) (allFlagsFit rest) e in
-    ap₂ (λ (x : ℕ) (xs : List ℕ). x ∷ channel ∷ xs) (flags-same flags (p .0)) (entries-same rest (p .1))
 
 -- what is read of the bytes of a consistent sequence is its 32 bytes
 restored : (encoding : ChannelEncoding) (bytes : List ℕ) → length bytes ≡ 32 → consistentBytes encoding bytes ≡ true

@@ -1,7 +1,7 @@
 ghost use mathlib.Core.Path.{_≡_};
 ghost use mathlib.Core.List.{_∷_, []};
-ghost use Prim.Native.Nat.{_*_};
-ghost use lib.ListN.{length, drop};
+ghost use Prim.Native.Nat.{_*_, _≤_};
+ghost use lib.ListN.{length};
 ghost use Rattle.wire.specs.Reading as Reading;
 ghost use Rattle.wire.specs.Answer.{refusal};
 ghost use Rattle.wire.specs.Said.{saidSize};
@@ -69,10 +69,9 @@ impl ChannelSequence {
     pub fn consistent(self) -> Consistency
         ensures { λ r. ⌜ saidConsistent r ≡ consistent self ⌝ }
     {
-        let bytes = self.bytes;
         match ChannelEncoding::from_bits(self.encoding) {
             FoundEncoding::Known(known) => {
-                if consistent_bytes(known, bytes) {
+                if consistent_bytes(known, &self.bytes) {
                     return Consistency::Yes;
                 }
                 Consistency::No
@@ -84,10 +83,9 @@ impl ChannelSequence {
     pub fn size(self) -> Size
         ensures { λ r. ⌜ saidSize r ≡ sizeOf self ⌝ }
     {
-        let bytes = self.bytes;
         match ChannelEncoding::from_bits(self.encoding) {
             FoundEncoding::Known(known) => {
-                if consistent_bytes(known, bytes) {
+                if consistent_bytes(known, &self.bytes) {
                     return Size::Bytes(size_in(known));
                 }
                 Size::Refused(Refusal::Inconsistent)
@@ -136,11 +134,7 @@ impl ChannelSequence {
 fn size_in(known: ChannelEncoding) -> usize
     ensures { λ r. ⌜ r ≡ 16 * entrySize known ⌝ }
 {
-    match known {
-        ChannelEncoding::Simple => 16,
-        ChannelEncoding::Legacy => 32,
-        ChannelEncoding::OpClass => 32,
-    }
+    16 * known.entry_size()
 }
 
 fn refused(why: Refusal) -> ReadSequence
@@ -172,45 +166,56 @@ fn held(known: ChannelEncoding, part: &[u8]) -> [u8; 32]
     requires { ⌜ length (now part) ≡ 16 * entrySize known ⌝ }
     ensures { λ r. ⌜ r ≡ padded (keptBytes known (now (part .entry))) ⌝ }
 {
+    match known {
+        ChannelEncoding::Simple => copied(part),
+        ChannelEncoding::Legacy => kept_entries(part),
+        ChannelEncoding::OpClass => copied(part),
+    }
+}
+
+// Bytes as they stand, and zeros behind them.
+fn copied(part: &[u8]) -> [u8; 32]
+    requires { ⌜ length (now part) ≤ 32 ⌝ }
+    ensures { λ r. ⌜ r ≡ padded (now (part .entry)) ⌝ }
+{
     let mut bytes = [0u8; 32];
     wire::put_slice(&mut bytes, 0, part);
-    match known {
-        ChannelEncoding::Simple => bytes,
-        ChannelEncoding::Legacy => kept_entries(bytes),
-        ChannelEncoding::OpClass => bytes,
-    }
+    bytes
 }
 
-fn kept_entries(bytes: [u8; 32]) -> [u8; 32]
-    ensures { λ r. ⌜ r ≡ keptEntries bytes ⌝ }
+fn kept_entries(part: &[u8]) -> [u8; 32]
+    requires { ⌜ length (now part) ≡ 32 ⌝ }
+    ensures { λ r. ⌜ r ≡ keptEntries (now (part .entry)) ⌝ }
 {
-    let mut kept = bytes;
+    let mut bytes = [0u8; 32];
     let mut i = 0;
     while i < 32 {
-        let flags = LegacyFlags::from_bits(kept[i]);
-        kept[i] = flags.0;
+        let flags = LegacyFlags::from_bits(part[i]);
+        bytes[i] = flags.0;
+        bytes[i + 1] = part[i + 1];
         i += 2;
     }
-    kept
+    bytes
 }
 
-fn consistent_bytes(known: ChannelEncoding, bytes: [u8; 32]) -> bool
-    ensures { λ r. ⌜ r ≡ consistentBytes known bytes ⌝ }
+// A simple sequence does not use its last sixteen bytes.
+fn consistent_bytes(known: ChannelEncoding, bytes: &[u8; 32]) -> bool
+    ensures { λ r. ⌜ r ≡ consistentBytes known (now (bytes .entry)) ⌝ }
 {
+    let all = &bytes[..];
     match known {
-        ChannelEncoding::Simple => all_zero(bytes),
-        ChannelEncoding::Legacy => all_flags_fit(bytes),
+        ChannelEncoding::Simple => all_zero(&all[16..]),
+        ChannelEncoding::Legacy => all_flags_fit(all),
         ChannelEncoding::OpClass => true,
     }
 }
 
-// Looks at the bytes that a simple sequence does not use.
-fn all_zero(bytes: [u8; 32]) -> bool
-    ensures { λ r. ⌜ r ≡ allZero (drop 16 bytes) ⌝ }
+fn all_zero(unused: &[u8]) -> bool
+    ensures { λ r. ⌜ r ≡ allZero (now (unused .entry)) ⌝ }
 {
-    let mut i = 16;
-    while i < 32 {
-        if bytes[i] != 0 {
+    let mut i = 0;
+    while i < unused.len() {
+        if unused[i] != 0 {
             return false;
         }
         i += 1;
@@ -218,12 +223,12 @@ fn all_zero(bytes: [u8; 32]) -> bool
     true
 }
 
-fn all_flags_fit(bytes: [u8; 32]) -> bool
-    ensures { λ r. ⌜ r ≡ allFlagsFit bytes ⌝ }
+fn all_flags_fit(entries: &[u8]) -> bool
+    ensures { λ r. ⌜ r ≡ allFlagsFit (now (entries .entry)) ⌝ }
 {
     let mut i = 0;
-    while i < 32 {
-        if LegacyFlags::KEEP < bytes[i] {
+    while i < entries.len() {
+        if LegacyFlags::KEEP < entries[i] {
             return false;
         }
         i += 2;
@@ -254,10 +259,7 @@ fn repeated(known: ChannelEncoding, first: u8, second: u8) -> [u8; 32]
 fn singles(channel: u8) -> [u8; 32]
     ensures { λ r. ⌜ r ≡ padded (times 16 (channel ∷ [])) ⌝ }
 {
-    let entries = [channel; 16];
-    let mut bytes = [0u8; 32];
-    wire::put_slice(&mut bytes, 0, &entries);
-    bytes
+    copied(&[channel; 16])
 }
 
 fn pairs(first: u8, second: u8) -> [u8; 32]

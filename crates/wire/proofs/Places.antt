@@ -6,7 +6,7 @@ use mathlib.Core.Path.{_≡_, refl, sym, ap}
 use mathlib.Core.Bool.{Bool, true, false, cond}
 use mathlib.Core.List.{List, _∷_}
 use lib.Dec.{leb}
-use lib.ListN.{length, getD, take, drop, length-drop}
+use lib.ListN.{length, getD, take, drop, length-take, length-drop}
 use lib.Seq.{take-all}
 use borrow.Author.Tests.{leb-false, lt-leb}
 use Rattle.wire.specs.declared.refusal.Refusal.{Refusal}
@@ -38,6 +38,12 @@ made-inside n s at g {a} {next} e =
     let same : p .mid ≡ next = let e′ = p .goes in cc in
     let f = field-inside n s at (p .begins) in
     omega arith
+
+-- a field that was read has the bytes that were asked for
+pub field-size : (n : ℕ) (s : List ℕ) (at : ℕ) {a : List ℕ} {next : ℕ} → field n s at ≡ read a next → length a ≡ n
+field-size n s at e =
+    let f = field-read n s at e in
+    rw (← f .2) (simp (length-drop, length-take) (omega arith))
 
 -- behind a field that does not fit, no other one does
 pub field-past : (n m : ℕ) (s : List ℕ) (at : ℕ) {why : Refusal} → field n s at ≡ refused why → field m s (at + n) ≡ refused Short

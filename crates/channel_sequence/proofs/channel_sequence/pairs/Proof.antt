@@ -1,7 +1,7 @@
 -- `pairs` meets its contract: what has been passed is filled, and the rest is still to be filled.
 -- Assumes nothing.
 use Prim.Native.Nat.{suc, _+_, _≤_, _-_, _/_, _%_}
-use Rattle.channel_sequence.proofs.Entries.{fill-step}
+use Rattle.channel_sequence.proofs.Entries.{entry-step}
 use Rattle.channel_sequence.proofs.channel_sequence.pairs.Statement.{statement}
 use Rattle.channel_sequence.proofs.channel_sequence.pairs.Tie as tie
 use Rattle.channel_sequence.specs.Sequences.{times}
@@ -38,6 +38,7 @@ loop-less : tie.Need-loop-less Inv-loop μ-loop
 loop-less c = omega arith
 
 loop-again : tie.Need-loop-again Inv-loop μ-loop
+unfolding times
 loop-again c =
     let a = c .before .before .args in
     let bytes = c .before .loop .bytes in
@@ -46,7 +47,7 @@ loop-again c =
       simp length-set (omega arith),
       omega arith,
       omega arith,
-      fill-step bytes i (a .first) (a .second) ((32 - (i + 2)) / 2) (omega arith) ∙ (rw left at (c .before .loop .inv .3)),
+      entry-step bytes i (a .first) (a .second) (times ((32 - (i + 2)) / 2) (a .first ∷ a .second ∷ [])) (omega arith) ∙ (rw left at (c .before .loop .inv .3)),
     )
 
 returns : tie.Need-returns Inv-loop μ-loop

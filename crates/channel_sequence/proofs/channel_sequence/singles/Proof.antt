@@ -1,26 +1,19 @@
--- `singles` meets its contract: the entries that were copied over zeros are padded.
+-- `singles` meets its contract: the entries that are copied are one byte sixteen times.
 -- Assumes nothing.
-use Rattle.channel_sequence.proofs.Entries.{padded-over}
 use Rattle.channel_sequence.proofs.channel_sequence.singles.Statement.{statement}
 use Rattle.channel_sequence.proofs.channel_sequence.singles.Tie as tie
 use Rattle.channel_sequence.specs.Sequences.{times}
 use borrow.Author.Needs.{needs}
-use native.Mathlib.Omega.{arith}
 
-slice-aggregate-put-slice : tie.Need-slice-aggregate-put-slice
-slice-aggregate-put-slice c = search needs
+slice-aggregate-copied : tie.Need-slice-aggregate-copied
+slice-aggregate-copied c = search needs
 
-slice-aggregate-put-slice-2 : tie.Need-slice-aggregate-put-slice-2
-slice-aggregate-put-slice-2 c = search needs
-
-put-slice-requires : tie.Need-put-slice-requires
-put-slice-requires c κs = search needs
+copied-requires : tie.Need-copied-requires
+copied-requires c κs = search needs
 
 returns : tie.Need-returns
 unfolding times
-returns c = padded-over (omega arith) (c .before .put-slice .ensures)
+returns c = c .copied .ensures
 
 pub singles-spec : {M : Type 1} → statement M
-singles-spec =
-    tie.close
-    (tie.spec slice-aggregate-put-slice slice-aggregate-put-slice-2 put-slice-requires returns)
+singles-spec = tie.close (tie.spec slice-aggregate-copied copied-requires returns)

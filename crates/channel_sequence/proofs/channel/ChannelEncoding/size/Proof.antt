@@ -3,8 +3,8 @@
 use Rattle.channel_sequence.proofs.channel.ChannelEncoding.size.Statement.{statement}
 use Rattle.channel_sequence.proofs.channel.ChannelEncoding.size.Tie as tie
 use Rattle.channel_sequence.specs.Said.{saidEncoding}
+use Rattle.wire.proofs.Once.{told}
 use borrow.Author.Needs.{needs}
-use mathlib.Core.Path.{sym, ap, _∙_}
 
 from-bits-requires : tie.Need-from-bits-requires
 from-bits-requires c κs = search needs
@@ -19,10 +19,10 @@ enum-known-why : tie.Need-enum-known-why
 enum-known-why c = search needs
 
 returns : tie.Need-returns
-returns c = rw (sym (c .before .before .before .before .from-bits .ensures) ∙ ap saidEncoding (c .before .before .known .given .1), c .entry-size .ensures)
+returns c = rw (told saidEncoding (c .before .before .before .before .from-bits .ensures) (c .before .before .known .given .1), c .entry-size .ensures)
 
 returns-2 : tie.Need-returns-2
-returns-2 c = rw (sym (c .before .before .before .from-bits .ensures) ∙ ap saidEncoding (c .before .why .given .1))
+returns-2 c = rw (told saidEncoding (c .before .before .before .from-bits .ensures) (c .before .why .given .1))
 
 pub size-spec : {M : Type 1} → statement M
 size-spec =

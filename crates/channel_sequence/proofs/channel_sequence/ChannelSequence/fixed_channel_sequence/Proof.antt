@@ -3,8 +3,8 @@
 use Rattle.channel_sequence.proofs.channel_sequence.ChannelSequence.fixed_channel_sequence.Statement.{statement}
 use Rattle.channel_sequence.proofs.channel_sequence.ChannelSequence.fixed_channel_sequence.Tie as tie
 use Rattle.channel_sequence.specs.Said.{saidEncoding}
+use Rattle.wire.proofs.Once.{told}
 use borrow.Author.Needs.{needs}
-use mathlib.Core.Path.{sym, ap, _∙_}
 
 from-bits-requires : tie.Need-from-bits-requires
 from-bits-requires c κs = search needs
@@ -19,7 +19,7 @@ repeated-requires : tie.Need-repeated-requires
 repeated-requires c κs = search needs
 
 returns : tie.Need-returns
-returns c = rw (sym (c .before .before .before .before .before .before .from-bits .ensures) ∙ ap saidEncoding (c .before .before .before .before .known .given .1), ← c .before .before .consistent-entry .ensures, c .before .if1 .taken, c .repeated .ensures)
+returns c = rw (told saidEncoding (c .before .before .before .before .before .before .from-bits .ensures) (c .before .before .before .before .known .given .1), ← c .before .before .consistent-entry .ensures, c .before .if1 .taken, c .repeated .ensures)
 
 not-fixed-requires : tie.Need-not-fixed-requires
 not-fixed-requires c κs = search needs
@@ -31,10 +31,10 @@ not-fixed-requires-2 : tie.Need-not-fixed-requires-2
 not-fixed-requires-2 c κs = search needs
 
 returns-2 : tie.Need-returns-2
-returns-2 c = rw (sym (c .before .before .before .before .before .before .from-bits .ensures) ∙ ap saidEncoding (c .before .before .before .before .known .given .1), ← c .before .before .consistent-entry .ensures, c .before .if1 .left) (c .not-fixed .ensures)
+returns-2 c = rw (told saidEncoding (c .before .before .before .before .before .before .from-bits .ensures) (c .before .before .before .before .known .given .1), ← c .before .before .consistent-entry .ensures, c .before .if1 .left) (c .not-fixed .ensures)
 
 returns-3 : tie.Need-returns-3
-returns-3 c = rw (sym (c .before .before .before .before .from-bits .ensures) ∙ ap saidEncoding (c .before .before .why .given .1)) (c .not-fixed2 .ensures)
+returns-3 c = rw (told saidEncoding (c .before .before .before .before .from-bits .ensures) (c .before .before .why .given .1)) (c .not-fixed2 .ensures)
 
 pub fixed-channel-sequence-spec : {M : Type 1} → statement M
 fixed-channel-sequence-spec =

@@ -6,6 +6,7 @@ use Rattle.channel_sequence.proofs.channel_sequence.ChannelSequence.rea
 use Rattle.channel_sequence.specs.Channels.{entrySize}
 use Rattle.channel_sequence.specs.Said.{saidEncoding}
 use Rattle.wire.proofs.Bytes.{PlacedField, placed, unplaced}
+use Rattle.wire.proofs.Once.{told}
 use Rattle.wire.specs.Reading.{field}
 use Rattle.wire.specs.Said.{saidPlace}
 use borrow.Author.Needs.{needs}
@@ -60,17 +61,17 @@ refused-requires-2 : tie.Need-refused-requires-2
 refused-requires-2 c κs = search needs
 
 returns : tie.Need-returns
-returns c = rw (sym (c .before .before .before .before .before .before .before .before .before .before .from-bits .ensures) ∙ ap saidEncoding (c .before .before .before .before .before .before .before .before .known .given .1), part (c .before .before) .whole, c .held .ensures)
+returns c = rw (told saidEncoding (c .before .before .before .before .before .before .before .before .before .before .from-bits .ensures) (c .before .before .before .before .before .before .before .before .known .given .1), part (c .before .before) .whole, c .held .ensures)
 
 returns-2 : tie.Need-returns-2
 returns-2 c =
     let a = c .before .before .before .before .before .before .before .before .before .before .before .args in
     let said = ap saidPlace (sym (c .before .before .why .given .1)) ∙ c .before .before .before .before .field-at .ensures in
     let short = unplaced (field (16 * entrySize (c .before .before .before .before .before .before .before .known .given .0 .0)) (a .s .now) (a .at)) (rw (c .before .before .before .before .before .size-in .ensures) at said) in
-    rw (sym (c .before .before .before .before .before .before .before .before .before .from-bits .ensures) ∙ ap saidEncoding (c .before .before .before .before .before .before .before .known .given .1), short) (c .refused .ensures)
+    rw (told saidEncoding (c .before .before .before .before .before .before .before .before .before .from-bits .ensures) (c .before .before .before .before .before .before .before .known .given .1), short) (c .refused .ensures)
 
 returns-3 : tie.Need-returns-3
-returns-3 c = rw (sym (c .before .before .before .before .from-bits .ensures) ∙ ap saidEncoding (c .before .before .why2 .given .1)) (c .refused2 .ensures)
+returns-3 c = rw (told saidEncoding (c .before .before .before .before .from-bits .ensures) (c .before .before .why2 .given .1)) (c .refused2 .ensures)
 
 pub read-spec : {M : Type 1} → statement M
 read-spec =

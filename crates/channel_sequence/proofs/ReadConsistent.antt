@@ -1,0 +1,97 @@
+-- What is read is consistent, since nothing but zeros stands behind it and its flags were kept; and what is consistent is read of its own 32 bytes.
+-- Assumes nothing.
+use Prim.Native.Nat.{ℕ, _-_, _*_, _≤_}
+use native.Mathlib.Nat.{zero-add}
+use native.Mathlib.Omega.{arith}
+use mathlib.Core.Path.{_≡_, refl, ap, subst, _∙_}
+use mathlib.Core.Bool.{true}
+use mathlib.Core.List.{List, [], _++_}
+use lib.ListN.{length, take, drop, replicate, length-append, length-replicate, take-append-drop}
+use lib.Seq.{drop-at}
+use Rattle.wire.specs.Reading.{read, field, give}
+use Rattle.wire.specs.Answer.{Answer, answer, refusal}
+use Rattle.wire.proofs.Lawful.{never, steps}
+use Rattle.wire.proofs.Places.{field-size}
+use Rattle.channel_sequence.specs.declared.channel.ChannelEncoding.{ChannelEncoding}
+use Rattle.channel_sequence.specs.declared.channel.ChannelEncoding.the-variants.{Simple, Legacy, OpClass}
+use Rattle.channel_sequence.specs.declared.channel_sequence.ChannelSequence.{ChannelSequence}
+use Rattle.channel_sequence.specs.Channels.{encodingOf, entrySize}
+use Rattle.channel_sequence.specs.Sequences.{consistentBytes, consistent, padded}
+use Rattle.channel_sequence.specs.SequenceReader.{keptEntries, keptBytes, sequence}
+use Rattle.channel_sequence.specs.Readable.{SequenceInWidth, Readable, ConsistentAsReadable}
+use Rattle.channel_sequence.proofs.Entries.{padded-full, size-most, sequence-sized, wire-bytes}
+use Rattle.channel_sequence.proofs.Flags.{length-kept, entries-fit}
+use Rattle.channel_sequence.proofs.RoundTrip.{round-trip}
+
+abbrev sequenceIn : ℕ → ChannelEncoding → List ℕ → ChannelSequence
+sequenceIn n encoding bytes = record { encoding = n; bytes = padded (keptBytes encoding bytes) }
+
+-- what a sequence was read of: a listed encoding, and a field of its size
+pub record SequenceField (n : ℕ) (s : List ℕ) (at : ℕ) (q : ChannelSequence) (next : ℕ) : Type 0 where
+  pub encoding : ChannelEncoding
+  pub found : encodingOf n ≡ answer encoding
+  pub bytes : List ℕ
+  pub field : field (16 * entrySize encoding) s at ≡ read bytes next
+  pub size : length (keptBytes encoding bytes) ≡ 16 * entrySize encoding
+  pub made : sequenceIn n encoding bytes ≡ q
+
+length-kept-bytes : (encoding : ChannelEncoding) (bytes : List ℕ) → length (keptBytes encoding bytes) ≡ length bytes
+length-kept-bytes Simple bytes = refl
+length-kept-bytes Legacy bytes = length-kept bytes
+length-kept-bytes OpClass bytes = refl
+
+pub sequence-field : (n : ℕ) (s : List ℕ) (at : ℕ) {q : ChannelSequence} {next : ℕ} → sequence n s at ≡ read q next → SequenceField n s at q next
+sequence-field n s at {q} {next} e = go (encodingOf n) refl
+  where
+    go : (found : Answer ChannelEncoding) → encodingOf n ≡ found → SequenceField n s at q next
+    go (answer encoding) f =
+        let size = 16 * entrySize encoding in
+        let w = steps (field size s at) (λ bytes place. give (sequenceIn n encoding bytes) s place) (rw f at e) in
+        let goes = w .goes in
+        let ends : w .mid ≡ next = cc in
+        record {
+          encoding = encoding;
+          found = f;
+          bytes = w .first;
+          field = w .begins ∙ ap (read (w .first)) ends;
+          size = length-kept-bytes encoding (w .first) ∙ field-size size s at (w .begins);
+          made = cc;
+        }
+    go (refusal why) f = absurd (never (rw f at e))
+
+-- behind the bytes of a simple sequence stand zeros, and the flags of a legacy one were kept
+pub padded-consistent : (encoding : ChannelEncoding) (bytes : List ℕ) → length (keptBytes encoding bytes) ≡ 16 * entrySize encoding
+    → consistentBytes encoding (padded (keptBytes encoding bytes)) ≡ true
+padded-consistent Simple bytes e = rw (drop-at bytes (replicate (32 - length bytes) 0) 16 e, e)
+padded-consistent Legacy bytes e = rw (padded-full (keptEntries bytes) e) (entries-fit bytes)
+padded-consistent OpClass bytes e = refl
+
+length-padded : (bytes : List ℕ) → length bytes ≤ 32 → length (padded bytes) ≡ 32
+length-padded bytes h = simp (length-append, length-replicate) (omega arith)
+
+pub read-consistent : (n : ℕ) (s : List ℕ) (at : ℕ) {q : ChannelSequence} {next : ℕ} → sequence n s at ≡ read q next
+    → (q .encoding ≡ n) × (length (q .bytes) ≡ 32) × (consistent q ≡ answer true)
+read-consistent n s at e =
+    let w = sequence-field n s at e in
+    let most = size-most (w .encoding) in (
+      rw (← w .made),
+      rw (← w .made) (length-padded (keptBytes (w .encoding) (w .bytes)) (omega (arith, w .size))),
+      rw (← w .made, w .found) (ap answer (padded-consistent (w .encoding) (w .bytes) (w .size))),
+    )
+
+consistent-read : (q : ChannelSequence) → SequenceInWidth q → consistent q ≡ answer true → Readable q
+consistent-read q fits e =
+    let w = round-trip q (fits .many) e in
+    let n = length (w .bytes) in
+    let front : w .bytes ≡ take n (q .bytes) = cc (w .written, wire-bytes (sequence-sized q (w .size))) in
+    let behind : List ℕ = drop n (q .bytes) in
+    let all : w .bytes ++ behind ≡ q .bytes = ap (λ (z : List ℕ). z ++ behind) front ∙ take-append-drop n (q .bytes) in
+    record {
+      bytes = q .bytes;
+      small = fits .small;
+      size = n;
+      reads = subst (λ (s : List ℕ). sequence (q .encoding) s 0 ≡ read q n) all (w .back .back [] behind ∙ ap (read q) (zero-add n));
+    }
+
+pub consistent-as-readable : ConsistentAsReadable
+consistent-as-readable q fits = (consistent-read q fits, λ r. read-consistent (q .encoding) (r .bytes) 0 (r .reads) .2)
