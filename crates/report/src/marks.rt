@@ -16,7 +16,7 @@ use data_path_state::ReadDataPathState;
 use synchronization_parameters::SynchronizationParametersTLV;
 use tlvs::Item;
 use tlvs::Step;
-use wire::Size;
+use wire::Place;
 
 // A place in a report, from which a caller goes on.
 pub enum Mark {
@@ -89,11 +89,11 @@ fn synchronization_line(value: &[u8], out: &mut [u8]) -> usize
     let answer = read.answer;
     let parameters = read.parameters;
     match answer {
-        Size::Bytes(_) => {
+        Place::At(_) => {
             let number = lines::of_u16(parameters.aw_seq_number);
             lines::one_number(out, b"sync seq=", number)
         }
-        Size::Refused(why) => {
+        Place::Refused(why) => {
             let number = lines::of_u8(why.number());
             lines::one_number(out, b"value refused ", number)
         }

@@ -1,21 +1,17 @@
 -- A record is read exactly where 33 bytes stand, each field at its offset: the first 33 bytes are taken apart and computed with; a shorter value is a longer one, cut.
 -- Assumes nothing.
-use Prim.Native.Nat.{ℕ, _≤_, _<_}
+use Prim.Native.Nat.{ℕ, _+_, _*_, _≤_, _<_}
 use native.Mathlib.Nat.{add-zero}
 use native.Mathlib.Omega.{arith}
-use native.Mathlib.Decide.{decLe}
-use mathlib.Core.Logic.{dite}
 use mathlib.Core.Path.{_≡_, subst}
 use mathlib.Core.Bool.{true}
 use mathlib.Core.List.{List, [], _∷_, _++_}
 use lib.Dec.{leb}
-use lib.ListN.{length, getD, take, drop, replicate, length-append}
+use lib.ListN.{length, getD, drop, replicate, length-append}
 use lib.Seq.{take-append-seam}
 use borrow.Author.Tests.{le-leb, leb-true}
 use Rattle.wire.specs.declared.refusal.Refusal.the-variants.{Short}
 use Rattle.wire.specs.Reading.{read, refused}
-use Rattle.wire.specs.Answer.{answer, placeOf}
-use Rattle.wire.specs.Numbers.{little}
 use Rattle.wire.proofs.Bytes.{from, opened}
 use Rattle.wire.proofs.Lawful.{Lawful, cut-short}
 use Rattle.wire.proofs.Fixed.{FixedWidths, give-fixed, field-fixed, bind-fixed, number-fixed, address-fixed}
@@ -26,7 +22,7 @@ abbrev byteAt : List ℕ → ℕ → ℕ
 byteAt s at = getD s at 0
 
 abbrev wordAt : List ℕ → ℕ → ℕ
-wordAt s at = little (take 2 (drop at s))
+wordAt s at = byteAt s at + 256 * byteAt s (at + 1)
 
 -- the fields at their offsets
 abbrev pub fieldsOf : List ℕ → SynchronizationParametersTLV
@@ -85,10 +81,3 @@ short s h =
     let more : List ℕ = replicate 33 0 in
     rw (take-append-seam s more) at
     (cut-short synchronization-lawful (s ++ more) (all-fields (s ++ more) (simp length-append (omega arith))) h)
-
--- a place that was given is the one behind 33 bytes
-pub taken : (s : List ℕ) {size : ℕ} → answer size ≡ placeOf (synchronization s 0) → (size ≡ 33) × (33 ≤ length s)
-taken s {size} e =
-    dite (decLe 33 (length s))
-    (λ inside. let e′ = rw (all-fields s inside) at e in ((cc), inside))
-    (λ past. let e′ = rw (short s (omega arith)) at e in let z : _≡_ {A = ℕ} 0 1 = cc in absurd (omega arith))

@@ -1,19 +1,16 @@
 ghost use mathlib.Core.Path.{_≡_};
-ghost use Prim.Native.Nat.{_+_, _≤_};
-ghost use lib.ListN.{length, take, drop};
+ghost use Prim.Native.Nat.{_+_, _*_, _≤_};
+ghost use lib.ListN.{length, getD};
 ghost use Rattle.wire.specs.Reading as Reading;
 ghost use Rattle.wire.specs.Answer.{answer, placeOf};
-ghost use Rattle.wire.specs.Numbers.{little};
 ghost use Rattle.wire.specs.Said.{saidPlace, saidSize};
 ghost use Rattle.wire.specs.Writing.{Put, Wrote};
-ghost use Rattle.synchronization_parameters.specs.SynchronizationReader.{synchronization};
+ghost use Rattle.synchronization_parameters.specs.SynchronizationReader.{synchronization, zeroSynchronization};
 ghost use Rattle.synchronization_parameters.specs.SynchronizationBytes.{bytesOf};
 ghost use Rattle.synchronization_parameters.specs.Said.{synchronizationRead};
 use wire::AWDLTLVType;
 use wire::MACAddress;
 use wire::Place;
-use wire::ReadU16;
-use wire::Refusal;
 use wire::Size;
 
 // The fixed part of the value. What stands behind it in the value is no part of the record.
@@ -38,9 +35,9 @@ pub struct SynchronizationParametersTLV {
     pub ap_beacon_alignment_delta: u16,
 }
 
-// The size that was read and the record, or why there is none; the record is then the zero one.
+// The place behind the record, or why there is none; the record is then the zero one.
 pub struct ReadSynchronization {
-    pub answer: Size,
+    pub answer: Place,
     pub parameters: SynchronizationParametersTLV,
 }
 
@@ -57,12 +54,16 @@ impl SynchronizationParametersTLV {
     pub fn read(s: &[u8]) -> ReadSynchronization
         ensures { λ r. ⌜ r ≡ synchronizationRead (synchronization (now (s .entry)) 0) ⌝ }
     {
-        match behind_fields(s) {
-            Place::At(size) => ReadSynchronization {
-                answer: Size::Bytes(size),
-                parameters: fields(s),
-            },
-            Place::Refused(why) => refused(why),
+        // Only where not all bytes are there, the field that is short is looked for.
+        if s.len() < SynchronizationParametersTLV::MIN_SIZE {
+            return ReadSynchronization {
+                answer: behind_fields(s),
+                parameters: no_parameters(),
+            };
+        }
+        ReadSynchronization {
+            answer: Place::At(SynchronizationParametersTLV::MIN_SIZE),
+            parameters: fields(s),
         }
     }
 
@@ -82,31 +83,29 @@ impl SynchronizationParametersTLV {
     }
 }
 
-fn refused(why: Refusal) -> ReadSynchronization
-    ensures { λ r. ⌜ r ≡ synchronizationRead (Reading.refused why) ⌝ }
+// The record beside a refusal.
+fn no_parameters() -> SynchronizationParametersTLV
+    ensures { λ r. ⌜ r ≡ zeroSynchronization ⌝ }
 {
-    ReadSynchronization {
-        answer: Size::Refused(why),
-        parameters: SynchronizationParametersTLV {
-            next_channel: 0,
-            tx_counter: 0,
-            master_channel: 0,
-            guard_time: 0,
-            aw_period: 0,
-            af_period: 0,
-            awdl_flags: 0,
-            aw_ext_length: 0,
-            aw_common_length: 0,
-            remaining_aw_length: 0,
-            min_ext_count: 0,
-            max_multicast_ext_count: 0,
-            max_unicast_ext_count: 0,
-            max_af_ext_count: 0,
-            master_address: MACAddress(0, 0, 0, 0, 0, 0),
-            presence_mode: 0,
-            aw_seq_number: 0,
-            ap_beacon_alignment_delta: 0,
-        },
+    SynchronizationParametersTLV {
+        next_channel: 0,
+        tx_counter: 0,
+        master_channel: 0,
+        guard_time: 0,
+        aw_period: 0,
+        af_period: 0,
+        awdl_flags: 0,
+        aw_ext_length: 0,
+        aw_common_length: 0,
+        remaining_aw_length: 0,
+        min_ext_count: 0,
+        max_multicast_ext_count: 0,
+        max_unicast_ext_count: 0,
+        max_af_ext_count: 0,
+        master_address: MACAddress(0, 0, 0, 0, 0, 0),
+        presence_mode: 0,
+        aw_seq_number: 0,
+        ap_beacon_alignment_delta: 0,
     }
 }
 
@@ -114,10 +113,11 @@ fn refused(why: Refusal) -> ReadSynchronization
 fn behind_fields(s: &[u8]) -> Place
     ensures { λ r. ⌜ saidPlace r ≡ placeOf (synchronization (now (s .entry)) 0) ⌝ }
 {
+    let widths = WIDTHS;
     let mut at = 0;
     let mut i = 0;
     while i < 18 {
-        let found = wire::field_at(s, at, WIDTHS[i]);
+        let found = wire::field_at(s, at, widths[i]);
         let Place::At(next) = found else {
             return found;
         };
@@ -154,15 +154,19 @@ fn fields(s: &[u8]) -> SynchronizationParametersTLV
     }
 }
 
+// The number that two bytes write.
+fn pair(low: u8, high: u8) -> u16
+    ensures { λ r. ⌜ r ≡ low + 256 * high ⌝ }
+{
+    low as u16 + 256 * high as u16
+}
+
 // The number at a place of a value that has its two bytes.
 fn word(s: &[u8], at: usize) -> u16
     requires { ⌜ at + 2 ≤ length (now s) ⌝ }
-    ensures { λ r. ⌜ r ≡ little (take 2 (drop at (now (s .entry)))) ⌝ }
+    ensures { λ r. ⌜ r ≡ getD (now (s .entry)) at 0 + 256 * getD (now (s .entry)) (at + 1) 0 ⌝ }
 {
-    match wire::u16_at(s, at) {
-        ReadU16::Read(value, _) => value,
-        ReadU16::Refused(_) => 0,
-    }
+    pair(s[at], s[at + 1])
 }
 
 // Puts the fields at their places into a buffer that has room for them, and gives the place behind.

@@ -1,7 +1,7 @@
 -- Where the enum of an answer stands beside the record, the two together say what the answer was made of.
 -- Assumes nothing.
 use mathlib.Core.Path.{_≡_, refl}
-use Rattle.wire.specs.declared.write.Size.{Size}
+use Rattle.wire.specs.declared.read.Place.{Place}
 use Rattle.wire.specs.Reading.{Reading, read, refused}
 use Rattle.wire.proofs.Once.{beside}
 use Rattle.synchronization_parameters.specs.declared.synchronization_parameters_tlv.SynchronizationParametersTLV.{SynchronizationParametersTLV}
@@ -13,9 +13,9 @@ use Rattle.tlvs.specs.declared.search.FoundSynchronization.{FoundSynchro
 use Rattle.tlvs.specs.Search.{Search, found, nothing}
 use Rattle.tlvs.specs.Said.{synchronizationFound}
 
-pub read-beside : (m : Reading SynchronizationParametersTLV) {r : ReadSynchronization} {answer : Size} → r ≡ synchronizationRead m → r .answer ≡ answer
+pub read-beside : (m : Reading SynchronizationParametersTLV) {r : ReadSynchronization} {answer : Place} → r ≡ synchronizationRead m → r .answer ≡ answer
     → m ≡ synchronizationOf answer (r .parameters)
-read-beside = beside synchronizationRead (λ r. r .answer) (λ r. r .parameters) synchronizationOf (elim [ read p size ↦ refl | refused why ↦ refl ])
+read-beside = beside synchronizationRead (λ r. r .answer) (λ r. r .parameters) synchronizationOf (elim [ read p next ↦ refl | refused why ↦ refl ])
 
 abbrev placed : Found → SynchronizationParametersTLV → Search SynchronizationParametersTLV
 placed (Found.At it next) p = found p it next

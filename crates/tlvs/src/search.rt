@@ -10,7 +10,7 @@ use crate::walk::value;
 use data_path_state::DataPathStateTLV;
 use data_path_state::ReadDataPathState;
 use synchronization_parameters::SynchronizationParametersTLV;
-use wire::Size;
+use wire::Place;
 
 // The next record of a type: it, its item, and the place behind it, from which a caller goes on.
 pub enum FoundDataPath {
@@ -90,7 +90,7 @@ fn match_and_parse_synchronization(tail: &[u8], item: Item, next: usize) -> Foun
     let read = SynchronizationParametersTLV::read(value(tail, item));
     let answer = read.answer;
     let parameters = read.parameters;
-    let Size::Bytes(_) = answer else {
+    let Place::At(_) = answer else {
         return no_synchronization();
     };
     FoundSynchronization {

@@ -5,10 +5,12 @@ use crate::show::byte;
 use crate::show::first;
 use crate::show::hex;
 use crate::show::number;
+use crate::show::refused;
 use crate::show::size;
 use crate::show::text;
 use synchronization_parameters::SynchronizationParametersTLV;
 use wire::MACAddress;
+use wire::Place;
 use wire::Size;
 
 fn field(name: &[u8], n: u64) {
@@ -67,6 +69,14 @@ fn write(s: &[u8], room: usize) {
     into(Writer::Synchronization, s, room);
 }
 
+// The record starts at the value's first byte, so that the place behind it is its size.
+fn place(answer: Place) {
+    match answer {
+        Place::At(next) => size(Size::Bytes(next)),
+        Place::Refused(why) => refused(why),
+    }
+}
+
 fn record(s: &[u8]) {
     text(b"read ");
     hex(s);
@@ -74,10 +84,10 @@ fn record(s: &[u8]) {
     let read = SynchronizationParametersTLV::read(s);
     let answer = read.answer;
     let parameters = read.parameters;
-    size(answer);
+    place(answer);
     first_fields(parameters);
     last_fields(parameters);
-    if let Size::Bytes(_) = answer {
+    if let Place::At(_) = answer {
         write(s, 32);
         write(s, 33);
         write(s, 34);

@@ -13,28 +13,13 @@ use mathlib.Core.Path.{_≡_, refl, sym, _∙_}
 use native.Mathlib.Omega.{arith}
 
 abbrev Inv-loop : tie.InvT-loop
-Inv-loop s at₀ i₀ at i = (i ≤ 18) × (past widths s 0 ≡ past (drop i widths) s at)
+Inv-loop s ns at₀ i₀ at i = (i ≤ 18) × (past widths s 0 ≡ past (drop i widths) s at)
 
 abbrev μ-loop : tie.MeasureT-loop
-μ-loop s at₀ i₀ at i = 18 - i
+μ-loop s ns at₀ i₀ at i = 18 - i
 
 loop-holds : tie.Need-loop-holds Inv-loop μ-loop
 loop-holds c = (omega arith, refl)
-
-mul-field-at : tie.Need-mul-field-at Inv-loop μ-loop
-mul-field-at c = search needs
-
-array-read-field-at : tie.Need-array-read-field-at Inv-loop μ-loop
-array-read-field-at c = search needs
-
-field-at-requires : tie.Need-field-at-requires Inv-loop μ-loop
-field-at-requires c κs = search needs
-
-enum-known-found : tie.Need-enum-known-found Inv-loop μ-loop
-enum-known-found c = search needs
-
-enum-told : tie.Need-enum-told Inv-loop μ-loop
-enum-told c = search needs
 
 returns : tie.Need-returns Inv-loop μ-loop
 returns c =
@@ -42,12 +27,6 @@ returns c =
     let loop = c .before .before .before .before .loop in
     let refused = told saidPlace (c .before .before .field-at .ensures) (c .enum-told .given .1) in
     sym (synchronization-fixed .place s 0 ∙ loop .inv .1 ∙ past-step widths s (loop .at) (loop .i) (omega arith) ∙ rw (refused, c .enum-told .given .1))
-
-add-i : tie.Need-add-i Inv-loop μ-loop
-add-i c = search needs
-
-loop-less : tie.Need-loop-less Inv-loop μ-loop
-loop-less c = search needs
 
 loop-again : tie.Need-loop-again Inv-loop μ-loop
 loop-again c =
@@ -66,17 +45,6 @@ returns-2 c =
 pub behind-fields-spec : {M : Type 1} → statement M
 behind-fields-spec =
     tie.close
-    (tie.spec
-    Inv-loop
-    μ-loop
-    loop-holds
-    mul-field-at
-    array-read-field-at
-    field-at-requires
-    enum-known-found
-    enum-told
-    returns
-    add-i
-    loop-less
-    loop-again
-    returns-2)
+    (tie.spec Inv-loop μ-loop loop-holds
+    (search needs) (search needs) (search needs) (search needs) (search needs) returns
+    (search needs) (search needs) loop-again returns-2)

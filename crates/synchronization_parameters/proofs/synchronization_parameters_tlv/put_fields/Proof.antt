@@ -4,15 +4,11 @@ use Rattle.synchronization_parameters.proofs.synchronization_parameters
 use Rattle.synchronization_parameters.proofs.synchronization_parameters_tlv.put_fields.Tie as tie
 use Rattle.synchronization_parameters.specs.SynchronizationBytes.{bytesOf}
 use Rattle.wire.proofs.Stores.{_also_, put-length}
-use Rattle.wire.specs.Writing.{Put}
 use borrow.Author.Needs.{needs}
 
--- the fields are put one behind the other
-laid : (c : tie.After-slice-known20) →
-    let start = c .before .before .before .before .before .before .before .before .before .before .before .before .before .before .before .before .before .before .before .before .before .before .before .before .before .before .before .before .before .before .before .before .before .before .before .before .before .before .before .before .before .before .before .before .before .before .before .before .before .before .before .before .before .before .before .before .before .before .before .before .before .before .before .before .before .before .before .before .before .before .before .before .before .before .before .before .before .before in
-    Put (start .args .buf .now) 0 (bytesOf (start .args .p)) (c .before .before .put-u169 .result) (c .before .before .put-u169 .last .0)
+returns : tie.Need-returns
 unfolding bytesOf
-laid c =
+returns c =
     let c19 = c .before .before in
     let c18 = c19 .before .before .before .before in let c17 = c18 .before .before .before .before in let c16 = c17 .before .before .before .before in
     let c15 = c16 .before .before .before .before in let c14 = c15 .before .before .before .before in let c13 = c14 .before .before .before .before in
@@ -29,91 +25,12 @@ laid c =
     also c18 .put-u168 .ensures also c19 .put-u169 .ensures)
     (c1 .before .before .before .before .pre)
 
-put-u8-requires : tie.Need-put-u8-requires
-put-u8-requires c κs = search needs
-
-put-u16-requires : tie.Need-put-u16-requires
-put-u16-requires c κs = search needs
-
-put-u8-requires-2 : tie.Need-put-u8-requires-2
-put-u8-requires-2 c κs = search needs
-
-put-u8-requires-3 : tie.Need-put-u8-requires-3
-put-u8-requires-3 c κs = search needs
-
-put-u16-requires-2 : tie.Need-put-u16-requires-2
-put-u16-requires-2 c κs = search needs
-
-put-u16-requires-3 : tie.Need-put-u16-requires-3
-put-u16-requires-3 c κs = search needs
-
-put-u16-requires-4 : tie.Need-put-u16-requires-4
-put-u16-requires-4 c κs = search needs
-
-put-u16-requires-5 : tie.Need-put-u16-requires-5
-put-u16-requires-5 c κs = search needs
-
-put-u16-requires-6 : tie.Need-put-u16-requires-6
-put-u16-requires-6 c κs = search needs
-
-put-u16-requires-7 : tie.Need-put-u16-requires-7
-put-u16-requires-7 c κs = search needs
-
-put-u8-requires-4 : tie.Need-put-u8-requires-4
-put-u8-requires-4 c κs = search needs
-
-put-u8-requires-5 : tie.Need-put-u8-requires-5
-put-u8-requires-5 c κs = search needs
-
-put-u8-requires-6 : tie.Need-put-u8-requires-6
-put-u8-requires-6 c κs = search needs
-
-put-u8-requires-7 : tie.Need-put-u8-requires-7
-put-u8-requires-7 c κs = search needs
-
-put-address-requires : tie.Need-put-address-requires
-put-address-requires c κs = search needs
-
-put-u8-requires-8 : tie.Need-put-u8-requires-8
-put-u8-requires-8 c κs = search needs
-
-put-u8-requires-9 : tie.Need-put-u8-requires-9
-put-u8-requires-9 c κs = search needs
-
-put-u16-requires-8 : tie.Need-put-u16-requires-8
-put-u16-requires-8 c κs = search needs
-
-put-u16-requires-9 : tie.Need-put-u16-requires-9
-put-u16-requires-9 c κs = search needs
-
-same-length : tie.Need-same-length
-same-length c = put-length (laid c)
-
-returns : tie.Need-returns
-returns c = laid c
-
 pub put-fields-spec : {M : Type 1} → statement M
 put-fields-spec =
     tie.close
     (tie.spec
-    put-u8-requires
-    put-u16-requires
-    put-u8-requires-2
-    put-u8-requires-3
-    put-u16-requires-2
-    put-u16-requires-3
-    put-u16-requires-4
-    put-u16-requires-5
-    put-u16-requires-6
-    put-u16-requires-7
-    put-u8-requires-4
-    put-u8-requires-5
-    put-u8-requires-6
-    put-u8-requires-7
-    put-address-requires
-    put-u8-requires-8
-    put-u8-requires-9
-    put-u16-requires-8
-    put-u16-requires-9
-    same-length
-    returns)
+    (search needs) (search needs) (search needs) (search needs)
+    (search needs) (search needs) (search needs) (search needs) (search needs) (search needs)
+    (search needs) (search needs) (search needs) (search needs)
+    (search needs) (search needs) (search needs) (search needs) (search needs)
+    (λ c. put-length (returns c)) returns)

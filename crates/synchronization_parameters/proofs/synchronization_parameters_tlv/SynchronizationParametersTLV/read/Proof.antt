@@ -1,47 +1,24 @@
--- `SynchronizationParametersTLV::read` meets its contract: where the place behind the fields is given, they all fit, and a refusal of it is the reader's.
+-- `SynchronizationParametersTLV::read` meets its contract: where 33 bytes stand, the fields are read, and a shorter value is refused for the field that does not fit.
 -- Assumes nothing.
-use Rattle.synchronization_parameters.proofs.Whole.{taken}
+use Rattle.synchronization_parameters.proofs.Whole.{short}
 use Rattle.synchronization_parameters.proofs.synchronization_parameters_tlv.SynchronizationParametersTLV.read.Statement.{statement}
 use Rattle.synchronization_parameters.proofs.synchronization_parameters_tlv.SynchronizationParametersTLV.read.Tie as tie
-use Rattle.synchronization_parameters.specs.SynchronizationReader.{synchronization}
-use Rattle.wire.proofs.Bytes.{unplaced}
-use Rattle.wire.specs.Said.{saidPlace}
+use Rattle.wire.proofs.Once.{oncePlace}
+use Rattle.wire.specs.Answer.{placeOf}
+use Rattle.wire.specs.declared.read.Place.{Place}
+use Rattle.wire.specs.declared.refusal.Refusal.the-variants.{Short}
 use borrow.Author.Needs.{needs}
-use mathlib.Core.Path.{sym, ap, _∙_}
-
-behind-fields-requires : tie.Need-behind-fields-requires
-behind-fields-requires c κs = search needs
-
-enum-known-size : tie.Need-enum-known-size
-enum-known-size c = search needs
-
-fields-requires : tie.Need-fields-requires
-fields-requires c κs = taken _ (ap saidPlace (sym (c .before .size .given .1)) ∙ c .before .before .before .behind-fields .ensures) .1
-
-enum-known-why : tie.Need-enum-known-why
-enum-known-why c = search needs
-
-refused-requires : tie.Need-refused-requires
-refused-requires c κs = search needs
+use mathlib.Core.Path.{_≡_, refl, ap, _∙_}
+use native.Mathlib.Omega.{arith}
 
 returns : tie.Need-returns
 returns c =
-    let size = taken _ (ap saidPlace (sym (c .before .before .size .given .1)) ∙ c .before .before .before .before .behind-fields .ensures) .0 in
-    rw (c .fields .ensures, size)
+    let none = short (c .before .before .before .before .args .s .now) (omega arith) in
+    let answer : c .before .behind-fields .result ≡ Place.Refused Short = oncePlace (c .before .behind-fields .ensures ∙ ap placeOf none) refl in
+    rw (none, answer, c .no-parameters .ensures)
 
 returns-2 : tie.Need-returns-2
-returns-2 c =
-    let s = c .before .before .before .before .before .before .args .s .now in
-    rw (unplaced (synchronization s 0) (ap saidPlace (sym (c .before .before .why .given .1)) ∙ c .before .before .before .before .behind-fields .ensures)) (c .refused .ensures)
+returns-2 c = rw (c .fields .ensures)
 
 pub read-spec : {M : Type 1} → statement M
-read-spec =
-    tie.close
-    (tie.spec
-    behind-fields-requires
-    enum-known-size
-    fields-requires
-    enum-known-why
-    refused-requires
-    returns
-    returns-2)
+read-spec = tie.close (tie.spec (search needs) (search needs) returns (search needs) returns-2)

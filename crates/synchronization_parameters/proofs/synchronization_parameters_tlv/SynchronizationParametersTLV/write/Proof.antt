@@ -19,21 +19,6 @@ settled : (c : tie.After-known-told) →
     (33 ≡ n) × (n ≤ length (c .before .before .before .before .before .args .buf .now))
 settled c = known-room _ _ (ap saidSize (sym (c .before .n .given .1)) ∙ c .before .before .before .within .ensures)
 
-within-requires : tie.Need-within-requires
-within-requires c κs = search needs
-
-enum-known-n : tie.Need-enum-known-n
-enum-known-n c = search needs
-
-put-fields-requires : tie.Need-put-fields-requires
-put-fields-requires c κs = omega (arith, settled (c .before))
-
-enum-known-why : tie.Need-enum-known-why
-enum-known-why c = search needs
-
-same-length : tie.Need-same-length
-same-length c = search needs
-
 returns : tie.Need-returns
 unfolding bytesOf
 returns c =
@@ -49,11 +34,4 @@ returns-2 c =
 pub write-spec : {M : Type 1} → statement M
 write-spec =
     tie.close
-    (tie.spec
-    within-requires
-    enum-known-n
-    put-fields-requires
-    enum-known-why
-    same-length
-    returns
-    returns-2)
+    (tie.spec (search needs) (search needs) (λ c κs. omega (arith, settled (c .before))) (search needs) (search needs) returns returns-2)
