@@ -1,36 +1,29 @@
--- What a search meets from a place is what it meets in the item there and then from the place behind it, since the walk goes so. Going on from each place that was found gives all there is.
+-- What a search meets from a place is what it meets in the item there and then from the place behind it, since the walk goes so. So a caller who goes on behind each find is given all there is, and no more.
 -- Assumes nothing.
-use Prim.Native.Nat.{ℕ, zero, suc, _+_, _-_, _≤_, _<_}
+use Prim.Native.Nat.{ℕ, zero, suc, _-_, _≤_, _<_}
 use native.Mathlib.Omega.{arith}
 use mathlib.Core.Path.{_≡_, refl, sym, ap, _∙_}
 use mathlib.Core.Bool.{Bool, true, false, cond}
 use mathlib.Core.List.{List, [], _∷_, _++_}
 use lib.Dec.{eqb}
 use lib.ListN.{length}
-use mathlib.Core.Logic.{_⊎_, inl, inr, ⊎-elim}
+use mathlib.Core.Logic.{inl, inr, ⊎-elim}
 use types.Run.{OneOf}
+use borrow.Author.Tests.{eq-eqb, ne-eqb}
 use denote.Enum.Declared.{tagOf}
+use Rattle.wire.specs.declared.refusal.Refusal.{Refusal}
 use Rattle.wire.specs.Reading.{Reading, Reader, read, refused}
 use Rattle.tlvs.specs.declared.item.Item.{Item}
 use Rattle.tlvs.specs.declared.item.Step.{Step}
 use Rattle.tlvs.specs.Items.{stepAt, valueOf}
-use Rattle.tlvs.specs.Walk.{Walk}
-use Rattle.tlvs.specs.Search.{Match, kept, matched, accepted, allFrom, allOf, Search, found, nothing, behindItem, firstOf, nextFrom}
+use Rattle.tlvs.specs.Walk.{Ending, Walk, GivesItems, endsWhole, endsCut, givesItem}
+use Rattle.tlvs.specs.Search.{Match, kept, matched, accepted, allFrom, allOf, Search, found, nothing, behindItem, firstOf, nextFrom, GivesRecords, endsSearch, givesRecord}
 use Rattle.tlvs.proofs.item.Step as S
 use Rattle.tlvs.proofs.Steps.{step-stands}
-use Rattle.tlvs.proofs.Walks.{walk-goes}
-
--- what a search finds first, or else what the search behind it finds
-abbrev pub orElse : {A : Type 0} → Search A → Search A → Search A
-orElse (found a it next) later = found a it next
-orElse nothing later = later
-
-first-append : {A : Type 0} (xs ys : List (Match A)) → firstOf (xs ++ ys) ≡ orElse (firstOf xs) (firstOf ys)
-first-append [] ys = refl
-first-append (x ∷ xs) ys = refl
+use Rattle.tlvs.proofs.Walks.{gives-walk-at, walk-goes}
 
 -- what a step found, told by its case: the next place is behind the item, and fewer bytes are left from there
-pub step-behind : (s : List ℕ) (at : ℕ) {f : Step} {it : Item} {next : ℕ} → f ≡ stepAt s at → f ≡ Step.Item it next → next ≡ behindItem it
+step-behind : (s : List ℕ) (at : ℕ) {f : Step} {it : Item} {next : ℕ} → f ≡ stepAt s at → f ≡ Step.Item it next → next ≡ behindItem it
 step-behind s at p q = let w = step-stands s at (sym p ∙ q) in omega arith
 
 pub step-less : (s : List ℕ) (at : ℕ) {f : Step} {it : Item} {next : ℕ} → f ≡ stepAt s at → f ≡ Step.Item it next → length s - next < length s - at
@@ -51,19 +44,26 @@ pub record Finds {A : Type 0} (n : ℕ) (r : Reader A) (s : List ℕ) (at : ℕ)
   pub inside : next ≤ length s
   pub all : allFrom n r s at ≡ record { content = a; item = it } ∷ allFrom n r s next
 
--- what a caller has who takes each record that it is given and asks again from the place behind it, so many times at most
-abbrev pub takes : {A : Type 0} → Search A → (ℕ → List (Match A)) → List (Match A)
-takes (found a it next) rest = record { content = a; item = it } ∷ rest next
-takes nothing rest = []
-
-abbrev pub goingOn : {A : Type 0} → ℕ → (ℕ → Search A) → ℕ → List (Match A)
-goingOn zero search at = []
-goingOn (suc calls) search at = takes (search at) (goingOn calls search)
-
 module _ {A : Type 0} (n : ℕ) (r : Reader A) (s : List ℕ) where
-  all-item : (at : ℕ) {it : Item} {next : ℕ} → stepAt s at ≡ Step.Item it next → allFrom n r s at ≡ matched n r s it ++ allFrom n r s next
+  -- what an item gives, by its type and by what the reader finds in its value
+  pub other-type : (it : Item) → (it .«tlv_type» ≡ n → ⊥) → matched n r s it ≡ []
+  unfolding matched
+  other-type it other = rw (ne-eqb (it .«tlv_type») n other)
+
+  pub value-refused : (it : Item) {value : List ℕ} {why : Refusal} → it .«tlv_type» ≡ n → value ≡ valueOf s it → r value 0 ≡ refused why
+      → matched n r s it ≡ []
+  unfolding matched
+  value-refused it type here e = rw (eq-eqb (it .«tlv_type») n type, ← here, e)
+
+  pub value-read : (it : Item) {value : List ℕ} {a : A} {size : ℕ} → it .«tlv_type» ≡ n → value ≡ valueOf s it → r value 0 ≡ read a size
+      → matched n r s it ≡ record { content = a; item = it } ∷ []
+  unfolding matched
+  value-read it type here e = rw (eq-eqb (it .«tlv_type») n type, ← here, e)
+
+  all-item : (at : ℕ) {it : Item} {next : ℕ} {here : List (Match A)} → stepAt s at ≡ Step.Item it next → matched n r s it ≡ here
+      → allFrom n r s at ≡ here ++ allFrom n r s next
   unfolding allFrom
-  all-item at e = ap (λ (w : Walk). accepted n r s (w .items)) (walk-goes s at e)
+  all-item at e h = rw (← h) (ap (λ (w : Walk). accepted n r s (w .items)) (walk-goes s at e))
 
   all-last : (at : ℕ) (last : Step) → stepAt s at ≡ last → Last last → allFrom n r s at ≡ []
   unfolding allFrom
@@ -71,20 +71,15 @@ module _ {A : Type 0} (n : ℕ) (r : Reader A) (s : List ℕ) where
   all-last at Step.Whole e k = ap (λ (w : Walk). accepted n r s (w .items)) (walk-goes s at e)
   all-last at (Step.Cut place) e k = ap (λ (w : Walk). accepted n r s (w .items)) (walk-goes s at e)
 
-  -- what is found in the item at a place, or else behind it
-  search-item : (at : ℕ) {it : Item} {next : ℕ} {here : Search A} → stepAt s at ≡ Step.Item it next → firstOf (matched n r s it) ≡ here
-      → nextFrom n r s at ≡ orElse here (nextFrom n r s next)
-  search-item at {it} {next} e h = rw (← h) (ap firstOf (all-item at e) ∙ first-append (matched n r s it) (allFrom n r s next))
-
   -- Of a search that came from one place to another, with the same still to be found: it takes the record of the item there,
   -- or passes over the item, or ends where the walk does.
-  pub search-takes : (from at : ℕ) {f : Step} {it : Item} {next : ℕ} {a : A} {it′ : Item} {next′ : ℕ} → nextFrom n r s from ≡ nextFrom n r s at
-      → f ≡ stepAt s at → f ≡ Step.Item it next → firstOf (matched n r s it) ≡ found a it′ next′ → firstOf (matched n r s it) ≡ nextFrom n r s from
-  search-takes from at same p q h = h ∙ sym (same ∙ search-item at (sym p ∙ q) h)
+  pub search-takes : (from at : ℕ) {f : Step} {it : Item} {next : ℕ} {a : A} → nextFrom n r s from ≡ nextFrom n r s at
+      → f ≡ stepAt s at → f ≡ Step.Item it next → matched n r s it ≡ record { content = a; item = it } ∷ [] → found a it next ≡ nextFrom n r s from
+  search-takes from at {it = it} {a = a} same p q h = ap (found a it) (step-behind s at p q) ∙ sym (same ∙ ap firstOf (all-item at (sym p ∙ q) h))
 
   pub search-passes : (from at : ℕ) {f : Step} {it : Item} {next : ℕ} → nextFrom n r s from ≡ nextFrom n r s at
-      → f ≡ stepAt s at → f ≡ Step.Item it next → firstOf (matched n r s it) ≡ nothing → nextFrom n r s from ≡ nextFrom n r s next
-  search-passes from at same p q h = same ∙ search-item at (sym p ∙ q) h
+      → f ≡ stepAt s at → f ≡ Step.Item it next → matched n r s it ≡ [] → nextFrom n r s from ≡ nextFrom n r s next
+  search-passes from at same p q h = same ∙ ap firstOf (all-item at (sym p ∙ q) h)
 
   pub search-ends : (from at : ℕ) {last : Step} → nextFrom n r s from ≡ nextFrom n r s at → last ≡ stepAt s at → Last last
       → nothing ≡ nextFrom n r s from
@@ -107,46 +102,55 @@ module _ {A : Type 0} (n : ℕ) (r : Reader A) (s : List ℕ) where
       go [] e = refl
       go (x ∷ xs) e = absurd (let z : _≡_ {A = ℕ} 0 1 = cc in omega arith)
 
-  module _ (at : ℕ) {a : A} {it : Item} {next : ℕ} (e : nextFrom n r s at ≡ found a it next) where
-    here-or-behind : {it′ : Item} {next′ : ℕ} {xs : List (Match A)} → stepAt s at ≡ Step.Item it′ next′ → One it′ xs → matched n r s it′ ≡ xs
-        → (nextFrom n r s next′ ≡ found a it next → Finds n r s next′ a it next) → Finds n r s at a it next
-    here-or-behind q passed x more =
-        let w = step-stands s at q in
-        let rest = more (sym (search-item at q (ap firstOf x)) ∙ e) in
-        record { ahead = omega arith; inside = rest .inside; all = all-item at q ∙ rw x (rest .all) }
-    here-or-behind {it′} {next′} q (took b) x more =
-        let w = step-stands s at q in
-        let e′ : found b it′ (behindItem it′) ≡ found a it next = sym (search-item at q (ap firstOf x)) ∙ e in
-        let same : b ≡ a = cc in
-        let item : it′ ≡ it = cc in
-        let place : next′ ≡ next = step-behind s at refl q ∙ cc in
-        record { ahead = omega arith; inside = omega arith; all = all-item at q ∙ rw (x, same, item, place) }
+  none-found : (at : ℕ) {a : A} {it : Item} {next : ℕ} → allFrom n r s at ≡ [] → nextFrom n r s at ≡ found a it next → ⊥
+  none-found at none e = let e′ = sym (ap firstOf none) ∙ e in let z : _≡_ {A = ℕ} 0 1 = cc in omega arith
 
-    by-step : (f : Step) → stepAt s at ≡ f
-        → ((it′ : Item) (next′ : ℕ) → stepAt s at ≡ Step.Item it′ next′ → nextFrom n r s next′ ≡ found a it next → Finds n r s next′ a it next)
-        → Finds n r s at a it next
-    by-step (Step.Item it′ next′) q more = here-or-behind q (one it′) refl (more it′ next′ q)
-    by-step Step.Whole q more = absurd (let e′ = search-ends at at refl (sym q) (inl refl) ∙ e in let z : _≡_ {A = ℕ} 0 1 = cc in omega arith)
-    by-step (Step.Cut place) q more = absurd (let e′ = search-ends at at refl (sym q) (inr refl) ∙ e in let z : _≡_ {A = ℕ} 0 1 = cc in omega arith)
+  -- what is found is the record of the item at the place, or is found behind that item
+  here-or-behind : {at : ℕ} {a : A} {it : Item} {next : ℕ} {it′ : Item} {next′ : ℕ} {xs : List (Match A)} → nextFrom n r s at ≡ found a it next
+      → stepAt s at ≡ Step.Item it′ next′ → One it′ xs → matched n r s it′ ≡ xs
+      → (nextFrom n r s next′ ≡ found a it next → Finds n r s next′ a it next) → Finds n r s at a it next
+  here-or-behind {at} e q passed x more =
+      let w = step-stands s at q in
+      let rest = more (sym (search-passes at at refl refl q x) ∙ e) in
+      record { ahead = omega arith; inside = rest .inside; all = all-item at q x ∙ rest .all }
+  here-or-behind {at} {a} {it} {next} {it′} {next′} e q (took b) x more =
+      let w = step-stands s at q in
+      let e′ : found b it′ next′ ≡ found a it next = search-takes at at refl refl q x ∙ e in
+      let same : b ≡ a = cc in
+      let item : it′ ≡ it = cc in
+      let place : next′ ≡ next = cc in
+      record { ahead = omega arith; inside = omega arith; all = all-item at q x ∙ rw (same, item, place) }
 
-  finds-from : (m at : ℕ) → length s - at < m → {a : A} {it : Item} {next : ℕ} → nextFrom n r s at ≡ found a it next → Finds n r s at a it next
-  finds-from zero at h e = absurd (omega arith)
-  finds-from (suc m) at h e =
-      by-step at e (stepAt s at) refl (λ it′ next′ q e′. let w = step-stands s at q in finds-from m next′ (omega arith) e′)
+  finds-given : {at : ℕ} {items : List Item} {ending : Ending} → GivesItems s at items ending → {a : A} {it : Item} {next : ℕ}
+      → nextFrom n r s at ≡ found a it next → Finds n r s at a it next
+  finds-given {at} (endsWhole q) e = absurd (none-found at (all-last at Step.Whole q (inl refl)) e)
+  finds-given {at} (endsCut {place = place} q) e = absurd (none-found at (all-last at (Step.Cut place) q (inr refl)) e)
+  finds-given (givesItem {it = it} q g) e = here-or-behind e q (one it) refl (finds-given g)
 
   pub finds : (at : ℕ) {a : A} {it : Item} {next : ℕ} → nextFrom n r s at ≡ found a it next → Finds n r s at a it next
-  finds at e = finds-from (suc (length s - at)) at (omega arith) e
+  finds at e = finds-given (gives-walk-at s at) e
 
-  through : (at : ℕ) (f : Search A) (rest : ℕ → List (Match A)) → nextFrom n r s at ≡ f
-      → ((next : ℕ) → at < next → next ≤ length s → rest next ≡ allFrom n r s next) → takes f rest ≡ allFrom n r s at
-  through at (found a it next) rest e more = let w = finds at e in rw (more next (w .ahead) (w .inside)) (sym (w .all))
-  through at nothing rest e more = sym (all-nothing at e)
+  gives-find : (at : ℕ) (f : Search A) → nextFrom n r s at ≡ f
+      → ((next : ℕ) → length s - next < length s - at → GivesRecords (nextFrom n r s) next (allFrom n r s next))
+      → GivesRecords (nextFrom n r s) at (allFrom n r s at)
+  gives-find at nothing e behind = rw (all-nothing at e) (endsSearch e)
+  gives-find at (found a it next) e behind = let w = finds at e in rw (w .all) (givesRecord e (behind next (omega arith)))
 
-  -- asking again from each place that was found gives all there is, and no more
-  pub goes-through : (m at : ℕ) → length s - at < m → goingOn m (nextFrom n r s) at ≡ allFrom n r s at
-  goes-through zero at h = absurd (omega arith)
-  goes-through (suc m) at h =
-      through at (nextFrom n r s at) (goingOn m (nextFrom n r s)) refl (λ next ahead inside. goes-through m next (omega arith))
+  gives-finds : (m at : ℕ) → length s - at < m → GivesRecords (nextFrom n r s) at (allFrom n r s at)
+  gives-finds zero at h = absurd (omega arith)
+  gives-finds (suc m) at h = gives-find at (nextFrom n r s at) refl (λ next less. gives-finds m next (omega arith))
 
-  pub goes-through-all : goingOn (suc (length s)) (nextFrom n r s) 0 ≡ allOf n r s
-  goes-through-all = goes-through (suc (length s)) 0 (omega arith)
+  -- going on behind each find gives all there is from a place, and so all of the tail
+  pub gives-all-at : (at : ℕ) → GivesRecords (nextFrom n r s) at (allFrom n r s at)
+  gives-all-at at = gives-finds (suc (length s - at)) at (omega arith)
+
+  pub gives-all : GivesRecords (nextFrom n r s) 0 (allOf n r s)
+  gives-all = gives-all-at 0
+
+  -- and no other records
+  only-all : {at : ℕ} {xs : List (Match A)} → GivesRecords (nextFrom n r s) at xs → allFrom n r s at ≡ xs
+  only-all {at} (endsSearch e) = all-nothing at e
+  only-all {at} (givesRecord e g) = finds at e .all ∙ rw (only-all g)
+
+  pub gives-all-once : {at : ℕ} {xs ys : List (Match A)} → GivesRecords (nextFrom n r s) at xs → GivesRecords (nextFrom n r s) at ys → xs ≡ ys
+  gives-all-once g h = sym (only-all g) ∙ only-all h

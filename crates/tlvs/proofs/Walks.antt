@@ -1,39 +1,63 @@
--- The walk does not depend on its steps once there are more than bytes left: each item takes some. So it goes as `stepAt` says, place by place.
+-- The walk's steps are enough, since each item takes some of the bytes left. So it gives what a caller is given who goes on by `stepAt`, place by place, and no more.
 -- Assumes nothing.
-use Prim.Native.Nat.{ℕ, zero, suc, _+_, _-_, _≤_, _<_}
+use Prim.Native.Nat.{ℕ, zero, suc, _+_, _-_, _<_}
 use native.Mathlib.Omega.{arith}
 use mathlib.Core.Path.{_≡_, refl, sym, ap, _∙_}
-use mathlib.Core.List.{List, [], _∷_}
+use mathlib.Core.List.{List, []}
 use lib.ListN.{length}
 use Rattle.tlvs.specs.declared.item.Item.{Item}
 use Rattle.tlvs.specs.declared.item.Step.{Step}
 use Rattle.tlvs.specs.Items.{stepAt}
-use Rattle.tlvs.specs.Walk.{Ending, whole, cut, Walk, goOn, walkFrom, walkAt, walk, endReport}
-use Rattle.tlvs.proofs.Steps.{step-stands, step-whole, step-cut}
+use Rattle.tlvs.specs.Walk.{Ending, whole, cut, Walk, goOn, walkFrom, walkAt, walk, GivesItems, endsWhole, endsCut, givesItem, endReport}
+use Rattle.tlvs.proofs.Steps.{step-stands}
 
--- two ways to go on from a step that agree behind an item agree
-same-rest : (found : Step) (f g : ℕ → Walk) → ((it : Item) (next : ℕ) → found ≡ Step.Item it next → f next ≡ g next)
-    → goOn found f ≡ goOn found g
-same-rest (Step.Item it next) f g h = rw (h it next refl)
-same-rest Step.Whole f g h = refl
-same-rest (Step.Cut at) f g h = refl
+-- what is given at a place, and behind it
+gives-step : (s : List ℕ) (at : ℕ) (found : Step) (rest : ℕ → Walk) → stepAt s at ≡ found
+    → ((it : Item) (next : ℕ) → stepAt s at ≡ Step.Item it next → GivesItems s next (rest next .items) (rest next .ending))
+    → let w = goOn found rest in GivesItems s at (w .items) (w .ending)
+gives-step s at (Step.Item it next) rest e behind = givesItem e (behind it next e)
+gives-step s at Step.Whole rest e behind = endsWhole e
+gives-step s at (Step.Cut place) rest e behind = endsCut e
 
--- steps that are enough are as good as any other number of them that is
-enough : (m n : ℕ) (s : List ℕ) (at : ℕ) → length s - at < m → length s - at < n → walkFrom m s at ≡ walkFrom n s at
+-- a walk in more steps than bytes are left is given, since each item takes some
+gives-steps : (m : ℕ) (s : List ℕ) (at : ℕ) → length s - at < m → GivesItems s at (walkFrom m s at .items) (walkFrom m s at .ending)
 unfolding walkFrom
-enough zero n s at h k = absurd (omega arith)
-enough (suc m) zero s at h k = absurd (omega arith)
-enough (suc m) (suc n) s at h k =
-    same-rest (stepAt s at) (walkFrom m s) (walkFrom n s)
-    (λ it next e. let w = step-stands s at e in enough m n s next (omega arith) (omega arith))
+gives-steps zero s at h = absurd (omega arith)
+gives-steps (suc m) s at h =
+    gives-step s at (stepAt s at) (walkFrom m s) refl (λ it next e. let w = step-stands s at e in gives-steps m s next (omega arith))
+
+-- from any place, and from the tail's start
+pub gives-walk-at : (s : List ℕ) (at : ℕ) → GivesItems s at (walkAt s at .items) (walkAt s at .ending)
+gives-walk-at s at = gives-steps (suc (length s - at)) s at (omega arith)
+
+pub gives-walk : (s : List ℕ) → GivesItems s 0 (walk s .items) (walk s .ending)
+gives-walk s = gives-walk-at s 0
+
+-- whatever a caller is given is that walk
+only-steps : (m : ℕ) {s : List ℕ} {at : ℕ} {items : List Item} {ending : Ending} → length s - at < m → GivesItems s at items ending
+    → walkFrom m s at ≡ record { items = items; ending = ending }
+unfolding walkFrom
+only-steps zero h g = absurd (omega arith)
+only-steps (suc m) h (endsWhole e) = rw e
+only-steps (suc m) h (endsCut e) = rw e
+only-steps (suc m) {s} {at} h (givesItem e g) = let w = step-stands s at e in rw (e, only-steps m (omega arith) g)
+
+only-walk : {s : List ℕ} {at : ℕ} {items : List Item} {ending : Ending} → GivesItems s at items ending
+    → walkAt s at ≡ record { items = items; ending = ending }
+only-walk {s} {at} g = only-steps (suc (length s - at)) (omega arith) g
+
+-- so two callers that start at one place are given the same
+pub gives-walk-once : {s : List ℕ} {at : ℕ} {xs ys : List Item} {x y : Ending} → GivesItems s at xs x → GivesItems s at ys y
+    → (xs ≡ ys) × (x ≡ y)
+gives-walk-once g h =
+    let same = sym (only-walk g) ∙ only-walk h in
+    (ap (λ (w : Walk). w .items) same, ap (λ (w : Walk). w .ending) same)
 
 -- what the walk gives from a place: what stands there, and then what it gives from the next place
 pub walk-goes : (s : List ℕ) (at : ℕ) {found : Step} → stepAt s at ≡ found → walkAt s at ≡ goOn found (walkAt s)
-unfolding walkFrom
-walk-goes s at e =
-    same-rest (stepAt s at) (walkFrom (length s - at) s) (walkAt s)
-    (λ it next e. let w = step-stands s at e in enough (length s - at) (suc (length s - next)) s next (omega arith) (omega arith))
-    ∙ rw e
+walk-goes s at {found = Step.Item it next} e = only-walk (givesItem e (gives-walk-at s next))
+walk-goes s at {found = Step.Whole} e = only-walk (endsWhole e)
+walk-goes s at {found = Step.Cut place} e = only-walk (endsCut e)
 
 -- what a step finds where a walk ends
 abbrev pub lastStep : Ending → Step
@@ -66,42 +90,3 @@ counted-all {s} {at} {n} last w e =
     let none = ap (λ (w : Walk). length (w .items)) ends in
     let all : length (walk s .items) ≡ n = omega arith in
     rw (all, ← w .ending, ends)
-
--- the place at which a walk ends
-abbrev pub stop : List ℕ → Ending → ℕ
-stop s whole = length s
-stop s (cut at) = at
-
--- items that stand one behind the other from a place to another, each of them whole
-abbrev pub Follows : ℕ → List Item → ℕ → Type 0
-Follows at [] to = at ≡ to
-Follows at (it ∷ rest) to = (it .at ≡ at) × Follows (at + 3 + it .length) rest to
-
--- a walk's items follow each other up to its end, which lies within the tail, and what a step finds there is that end
-pub record WalkRuns (s : List ℕ) (at : ℕ) (w : Walk) : Type 0 where
-  pub follows : Follows at (w .items) (stop s (w .ending))
-  pub inside : stop s (w .ending) ≤ length s
-  pub ends : stepAt s (stop s (w .ending)) ≡ lastStep (w .ending)
-
-run : (s : List ℕ) (at : ℕ) (found : Step) (rest : ℕ → Walk) → at ≤ length s → stepAt s at ≡ found
-    → ((it : Item) (next : ℕ) → stepAt s at ≡ Step.Item it next → WalkRuns s next (rest next)) → WalkRuns s at (goOn found rest)
-run s at (Step.Item it next) rest h e more =
-    let w = step-stands s at e in
-    let r = more it next e in
-    record { follows = (w .place, rw (← w .behind) (r .follows)); inside = r .inside; ends = r .ends }
-run s at Step.Whole rest h e more =
-    let here = step-whole s at e in
-    record { follows = here; inside = omega arith; ends = ap (stepAt s) (sym here) ∙ e }
-run s at (Step.Cut place) rest h e more =
-    let here = step-cut s at e in
-    record { follows = sym here; inside = omega arith; ends = ap (stepAt s) here ∙ e }
-
-runs : (m : ℕ) (s : List ℕ) (at : ℕ) → at ≤ length s → length s - at < m → WalkRuns s at (walkFrom m s at)
-unfolding walkFrom
-runs zero s at h k = absurd (omega arith)
-runs (suc m) s at h k =
-    run s at (stepAt s at) (walkFrom m s) h refl
-    (λ it next e. let w = step-stands s at e in runs m s next (omega arith) (omega arith))
-
-pub walk-runs : (s : List ℕ) (at : ℕ) → at ≤ length s → WalkRuns s at (walkAt s at)
-walk-runs s at h = runs (suc (length s - at)) s at h (omega arith)

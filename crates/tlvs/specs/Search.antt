@@ -2,6 +2,7 @@
 use Prim.Native.Nat.{ℕ, _+_}
 use mathlib.Core.Bool.{cond}
 use mathlib.Core.List.{List, [], _∷_, _++_}
+use mathlib.Core.Path.{_≡_}
 use lib.Dec.{eqb}
 use Rattle.wire.specs.Reading.{Reading, Reader, read, refused}
 use Rattle.data_path_state.specs.declared.data_path_state_tlv.DataPathStateTLV.{DataPathStateTLV}
@@ -53,6 +54,12 @@ firstOf (a ∷ rest) = found (a .content) (a .item) (behindItem (a .item))
 
 abbrev pub nextFrom : {A : Type 0} → ℕ → Reader A → List ℕ → ℕ → Search A
 nextFrom type reader tail at = firstOf (allFrom type reader tail at)
+
+-- the records that a caller is given who asks at a place and goes on behind each find until there is none
+pub data GivesRecords {A : Type 0} (search : ℕ → Search A) : ℕ → List (Match A) → Type 0 where
+  endsSearch : {at : ℕ} → search at ≡ nothing → GivesRecords search at []
+  givesRecord : {at next : ℕ} {a : A} {it : Item} {rest : List (Match A)} → search at ≡ found a it next
+      → GivesRecords search next rest → GivesRecords search at (record { content = a; item = it } ∷ rest)
 
 -- the two types that are read
 abbrev pub nextDataPath : List ℕ → ℕ → Search DataPathStateTLV

@@ -2,16 +2,16 @@
 -- Assumes nothing.
 use Prim.Native.Nat.{_-_}
 use Rattle.data_path_state.specs.DataPath.{dataPath}
-use Rattle.tlvs.proofs.Searches.{step-behind, step-less, search-takes, search-passes, search-ends}
+use Rattle.data_path_state.specs.Said.{saidDataPath}
+use Rattle.tlvs.proofs.Searches.{step-less, other-type, value-refused, value-read, search-takes, search-passes, search-ends}
 use Rattle.tlvs.proofs.search.next_data_path.Statement.{statement}
 use Rattle.tlvs.proofs.search.next_data_path.Tie as tie
-use Rattle.tlvs.specs.Said.{saidFoundDataPath}
 use Rattle.tlvs.specs.Search.{nextDataPath}
 use Rattle.wire.proofs.Once.{told}
 use borrow.Author.Needs.{needs}
 use lib.ListN.{length}
 use native.Mathlib.Omega.{arith}
-use mathlib.Core.Path.{_≡_, refl, _∙_}
+use mathlib.Core.Path.{_≡_, refl}
 
 abbrev Inv-loop : tie.InvT-loop
 Inv-loop tail from at₀ at = nextDataPath tail from ≡ nextDataPath tail at
@@ -31,28 +31,49 @@ enum-known-item c = search needs
 returns : tie.Need-returns Inv-loop μ-loop
 returns c = search-ends 0x0C dataPath _ _ _ (c .before .before .loop .inv) (c .before .step .ensures) (c .match .keys2)
 
-match-and-parse-data-path-requires : tie.Need-match-and-parse-data-path-requires Inv-loop μ-loop
-match-and-parse-data-path-requires c κs = step-behind _ _ (c .before .before .before .step .ensures) (c .before .item .given .1)
+loop-less : tie.Need-loop-less Inv-loop μ-loop
+loop-less c =
+    let i = c .before .before .before in
+    omega (arith, step-less _ _ (i .before .before .step .ensures) (i .item .given .1))
+
+loop-again : tie.Need-loop-again Inv-loop μ-loop
+loop-again c =
+    let i = c .before .before .before in
+    search-passes 0x0C dataPath _ _ _ (i .before .before .before .loop .inv) (i .before .before .step .ensures) (i .item .given .1)
+    (other-type 0x0C dataPath _ _ (c .if1 .taken))
+
+value-requires : tie.Need-value-requires Inv-loop μ-loop
+value-requires c κs = search needs
+
+read-requires : tie.Need-read-requires Inv-loop μ-loop
+read-requires c κs = search needs
+
+enum-known-record : tie.Need-enum-known-record Inv-loop μ-loop
+enum-known-record c = search needs
 
 enum-told : tie.Need-enum-told Inv-loop μ-loop
 enum-told c = search needs
 
-enum-told-2 : tie.Need-enum-told-2 Inv-loop μ-loop
-enum-told-2 c = search needs
+loop-less-2 : tie.Need-loop-less-2 Inv-loop μ-loop
+loop-less-2 c =
+    let i = c .before .before .before .before .before .before .before in
+    omega (arith, step-less _ _ (i .before .before .step .ensures) (i .item .given .1))
+
+loop-again-2 : tie.Need-loop-again-2 Inv-loop μ-loop
+loop-again-2 c =
+    let v = c .before .before .before in
+    let i = v .before .before .before .before in
+    let said = told saidDataPath (c .before .before .read .ensures) (c .enum-told .given .1) in
+    search-passes 0x0C dataPath _ _ _ (i .before .before .before .loop .inv) (i .before .before .step .ensures) (i .item .given .1)
+    (value-refused 0x0C dataPath _ _ (v .before .if1 .left) (v .value .ensures .0) said)
 
 returns-2 : tie.Need-returns-2 Inv-loop μ-loop
 returns-2 c =
-    let here = told saidFoundDataPath (c .before .before .match-and-parse-data-path .ensures) (c .enum-told2 .given .1) in
-    let taken = search-takes 0x0C dataPath _ _ _ (c .before .before .before .before .before .before .before .loop .inv) (c .before .before .before .before .before .before .step .ensures) (c .before .before .before .before .item .given .1) here in
-    c .before .before .match-and-parse-data-path .ensures ∙ taken
-
-loop-less : tie.Need-loop-less Inv-loop μ-loop
-loop-less c = omega (arith, step-less _ _ (c .before .before .before .before .before .before .step .ensures) (c .before .before .before .before .item .given .1))
-
-loop-again : tie.Need-loop-again Inv-loop μ-loop
-loop-again c =
-    search-passes 0x0C dataPath _ _ _ (c .before .before .before .before .before .before .before .loop .inv) (c .before .before .before .before .before .before .step .ensures) (c .before .before .before .before .item .given .1)
-    (told saidFoundDataPath (c .before .before .match-and-parse-data-path .ensures) (c .enum-told .given .1))
+    let v = c .before .before .before .before in
+    let i = v .before .before .before .before in
+    let said = told saidDataPath (c .before .before .before .read .ensures) (c .before .«record» .given .1) in
+    search-takes 0x0C dataPath _ _ _ (i .before .before .before .loop .inv) (i .before .before .step .ensures) (i .item .given .1)
+    (value-read 0x0C dataPath _ _ (v .before .if1 .left) (v .value .ensures .0) said)
 
 pub next-data-path-spec : {M : Type 1} → statement M
 next-data-path-spec =
@@ -64,9 +85,12 @@ next-data-path-spec =
     step-requires
     enum-known-item
     returns
-    match-and-parse-data-path-requires
-    enum-told
-    enum-told-2
-    returns-2
     loop-less
-    loop-again)
+    loop-again
+    value-requires
+    read-requires
+    enum-known-record
+    enum-told
+    loop-less-2
+    loop-again-2
+    returns-2)

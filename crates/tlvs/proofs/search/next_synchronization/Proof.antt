@@ -2,8 +2,8 @@
 -- Assumes nothing.
 use Prim.Native.Nat.{_-_}
 use Rattle.synchronization_parameters.specs.SynchronizationReader.{synchronization}
-use Rattle.tlvs.proofs.Beside.{found-beside}
-use Rattle.tlvs.proofs.Searches.{step-behind, step-less, search-takes, search-passes, search-ends}
+use Rattle.tlvs.proofs.Beside.{read-beside}
+use Rattle.tlvs.proofs.Searches.{step-less, other-type, value-refused, value-read, search-takes, search-passes, search-ends}
 use Rattle.tlvs.proofs.search.next_synchronization.Statement.{statement}
 use Rattle.tlvs.proofs.search.next_synchronization.Tie as tie
 use Rattle.tlvs.specs.Said.{synchronizationFound}
@@ -36,9 +36,22 @@ returns c =
     let none = search-ends 0x04 synchronization _ _ _ (c .before .before .before .loop .inv) (c .before .before .step .ensures) (c .before .match .keys2) in
     c .no-synchronization .ensures ∙ ap synchronizationFound none
 
-match-and-parse-synchronization-requires :
-    tie.Need-match-and-parse-synchronization-requires Inv-loop μ-loop
-match-and-parse-synchronization-requires c κs = step-behind _ _ (c .before .before .before .step .ensures) (c .before .item .given .1)
+loop-less : tie.Need-loop-less Inv-loop μ-loop
+loop-less c =
+    let i = c .before .before .before in
+    omega (arith, step-less _ _ (i .before .before .step .ensures) (i .item .given .1))
+
+loop-again : tie.Need-loop-again Inv-loop μ-loop
+loop-again c =
+    let i = c .before .before .before in
+    search-passes 0x04 synchronization _ _ _ (i .before .before .before .loop .inv) (i .before .before .step .ensures) (i .item .given .1)
+    (other-type 0x04 synchronization _ _ (c .if1 .taken))
+
+value-requires : tie.Need-value-requires Inv-loop μ-loop
+value-requires c κs = search needs
+
+read-requires : tie.Need-read-requires Inv-loop μ-loop
+read-requires c κs = search needs
 
 enum-told : tie.Need-enum-told Inv-loop μ-loop
 enum-told c = search needs
@@ -46,19 +59,27 @@ enum-told c = search needs
 enum-told-2 : tie.Need-enum-told-2 Inv-loop μ-loop
 enum-told-2 c = search needs
 
+loop-less-2 : tie.Need-loop-less-2 Inv-loop μ-loop
+loop-less-2 c =
+    let i = c .before .before .before .before .before .before .before in
+    omega (arith, step-less _ _ (i .before .before .step .ensures) (i .item .given .1))
+
+loop-again-2 : tie.Need-loop-again-2 Inv-loop μ-loop
+loop-again-2 c =
+    let v = c .before .before .before in
+    let i = v .before .before .before .before in
+    let said = read-beside _ (c .before .before .read .ensures) (c .enum-told2 .given .1) in
+    search-passes 0x04 synchronization _ _ _ (i .before .before .before .loop .inv) (i .before .before .step .ensures) (i .item .given .1)
+    (value-refused 0x04 synchronization _ _ (v .before .if1 .left) (v .value .ensures .0) said)
+
 returns-2 : tie.Need-returns-2 Inv-loop μ-loop
 returns-2 c =
-    let here = found-beside _ (c .before .before .match-and-parse-synchronization .ensures) (c .enum-told2 .given .1) in
-    let taken = search-takes 0x04 synchronization _ _ _ (c .before .before .before .before .before .before .before .loop .inv) (c .before .before .before .before .before .before .step .ensures) (c .before .before .before .before .item .given .1) here in
-    c .before .before .match-and-parse-synchronization .ensures ∙ ap synchronizationFound taken
-
-loop-less : tie.Need-loop-less Inv-loop μ-loop
-loop-less c = omega (arith, step-less _ _ (c .before .before .before .before .before .before .step .ensures) (c .before .before .before .before .item .given .1))
-
-loop-again : tie.Need-loop-again Inv-loop μ-loop
-loop-again c =
-    let here = found-beside _ (c .before .before .match-and-parse-synchronization .ensures) (c .enum-told .given .1) in
-    search-passes 0x04 synchronization _ _ _ (c .before .before .before .before .before .before .before .loop .inv) (c .before .before .before .before .before .before .step .ensures) (c .before .before .before .before .item .given .1) here
+    let v = c .before .before .before .before in
+    let i = v .before .before .before .before in
+    let said = read-beside _ (c .before .before .before .read .ensures) (c .before .enum-told .given .1) in
+    ap synchronizationFound
+    (search-takes 0x04 synchronization _ _ _ (i .before .before .before .loop .inv) (i .before .before .step .ensures) (i .item .given .1)
+    (value-read 0x04 synchronization _ _ (v .before .if1 .left) (v .value .ensures .0) said))
 
 pub next-synchronization-spec : {M : Type 1} → statement M
 next-synchronization-spec =
@@ -71,9 +92,12 @@ next-synchronization-spec =
     enum-known-item
     no-synchronization-requires
     returns
-    match-and-parse-synchronization-requires
+    loop-less
+    loop-again
+    value-requires
+    read-requires
     enum-told
     enum-told-2
-    returns-2
-    loop-less
-    loop-again)
+    loop-less-2
+    loop-again-2
+    returns-2)
