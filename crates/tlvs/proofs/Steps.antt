@@ -1,13 +1,15 @@
 -- A step that finds an item finds it at its place, whole and within the tail, because each of the three fields was read. A step that ends the walk ends it there.
 -- Assumes nothing.
-use Prim.Native.Nat.{ℕ, _+_, _≤_}
+use Prim.Native.Nat.{ℕ, _+_, _-_, _≤_}
+use native.Mathlib.Nat.{zero-add}
 use native.Mathlib.Omega.{arith}
 use mathlib.Core.Path.{_≡_, refl, sym, ap, _∙_}
 use mathlib.Core.Bool.{Bool, true, false, cond}
 use mathlib.Core.List.{List}
 use lib.Dec.{eqb}
-use lib.ListN.{length}
-use borrow.Author.Tests.{eqb-true}
+use lib.ListN.{length, take, drop}
+use borrow.Author.Tests.{eqb-true, le-leb}
+use Rattle.wire.specs.Parts.{partAt}
 use Rattle.wire.specs.Reading.{Reading, read, refused, field, give, _>>=_}
 use Rattle.wire.specs.Numbers.{number, little}
 use Rattle.tlvs.specs.declared.item.Item.{Item}
@@ -35,6 +37,14 @@ stands s at {it} {next} e =
     let last : r .mid ≡ next = let e′ = r .goes in cc in
     let size : q .first ≡ it .length = ap (λ (x : Item). x .length) same in
     record { place = sym (ap (λ (x : Item). x .at) same); behind = omega arith; inside = omega arith }
+
+-- so its value is read where it stands, and is the part up to the next place
+pub stands-value : {s : List ℕ} {at : ℕ} {it : Item} {next : ℕ} → Stands s at it next
+    → field (it .length) s (it .at + 3) ≡ read (take (next - (at + 3)) (drop (at + 3) s)) next
+stands-value {s} {at} {it} {next} w =
+    let many : next - (at + 3) ≡ it .length = omega arith in
+    let fits : at + 3 + it .length ≤ length s = omega arith in
+    rw (w .place, le-leb (at + 3 + it .length) (length s) fits, many, w .behind)
 
 pub step-stands : (s : List ℕ) (at : ℕ) {it : Item} {next : ℕ} → stepAt s at ≡ Step.Item it next → Stands s at it next
 unfolding stepAt
@@ -66,3 +76,7 @@ step-cut s at {place} e = go (eqb at (length s)) (item at s at) e
     go true r e = absurd (let z : _≡_ {A = ℕ} 0 1 = cc in omega arith)
     go false (read it next) e = absurd (let z : _≡_ {A = ℕ} 0 1 = cc in omega arith)
     go false (refused why) e = cc
+
+-- a part from the start on lies where the slice does
+pub at-start : (p : ℕ × ℕ) → p ≡ partAt 0 p
+at-start p = ap (λ (offset : ℕ). (p .0, offset)) (sym (zero-add (p .1)))

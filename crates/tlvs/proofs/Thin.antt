@@ -25,7 +25,7 @@ use denote.RattleType.{RattleType, owns}
 use denote.Laws.{Is, shows}
 use denote.Plain.{uint-makes}
 use denote.Builtin.{u8, usize, SliceRefOf}
-use denote.Ref.{now}
+use denote.Ref.{RefT}
 use denote.Signature.{plain, namedLft}
 use denote.Slice.{sliceVal, sliceTy, ShrSlice}
 use denote.Steps.{owned, peeks, heard, nothing}
@@ -87,8 +87,8 @@ thin τ callee =
           return));
     }
 
--- R is what both answer, φ what is promised of an answer for some bytes and a place
-module _ (R : RattleType) (τ : Ty) (φ : List ℕ → ℕ → R .Denot → Type 0) where
+-- R is what both answer, over the signature's lifetime where it holds a part of the bytes; φ is what is promised of an answer for some bytes and a place
+module _ (R : Lfts 1 → RattleType) (τ : Ty) (φ : (κs : Lfts 1) → RefT (List ℕ) → ℕ → R κs .Denot → Type 0) where
   abbrev pub over-slice : Ended
   over-slice =
       record {
@@ -97,28 +97,28 @@ module _ (R : RattleType) (τ : Ty) (φ : List ℕ → ℕ → R .Denot → Type
               lifetimes = 1;
               outlives = [];
               params = SliceRefOf (0 ∷ []) tt (plain (λ _. u8)) (λ _. tt) ∷ plain (λ _. usize) ∷ [];
-              result = plain (λ _. R);
+              result = plain R;
             };
         kept = (yes, (yes, tt));
       }
 
   abbrev pub over-reader : Ended
-  over-reader = record { signature = record { lifetimes = 1; outlives = []; params = plain B ∷ []; result = plain (λ _. R) }; kept = (yes, tt) }
+  over-reader = record { signature = record { lifetimes = 1; outlives = []; params = plain B ∷ []; result = plain R }; kept = (yes, tt) }
 
   abbrev stayed : Stays (over-reader .signature .params) (over-reader .kept)
   stayed = (stay-none B yes, tt)
 
   module _ {M : Type 1} (𝓤 : URA M) (H : Heap 𝓤) (A : Atoms 𝓤) where
     abbrev pub slice-says : Clauses 𝓤 over-slice
-    slice-says κs a = record { ghost = Unit {0}; requires = λ _. emp 𝓤; ensures = λ _ r _. fact 𝓤 (φ (now (a .0)) (a .1 .0) r) }
+    slice-says κs a = record { ghost = Unit {0}; requires = λ _. emp 𝓤; ensures = λ _ r _. fact 𝓤 (φ κs (a .0) (a .1 .0) r) }
 
     abbrev pub reader-says : Clauses 𝓤 over-reader
-    reader-says κs a = record { ghost = Unit {0}; requires = λ _. emp 𝓤; ensures = λ _ r _. fact 𝓤 (φ (now (a .0 .bytes)) (a .0 .at) r) }
+    reader-says κs a = record { ghost = Unit {0}; requires = λ _. emp 𝓤; ensures = λ _ r _. fact 𝓤 (φ κs (a .0 .bytes) (a .0 .at) r) }
 
     abbrev pub Promise : Contract 𝓤
     Promise = tripleOf 𝓤 H A (over-slice .signature) (closing 𝓤 H A over-slice slice-says)
 
-    module _ (W : Given 𝓤 H A) (typed : (r : R .Denot) (u : Val) → Is R r (u ∷ []) → Holds (hasTy τ u) × WT u) where
+    module _ (W : Given 𝓤 H A) (typed : (κs : Lfts 1) (r : R κs .Denot) (u : Val) → Is (R κs) r (u ∷ []) → Holds (hasTy τ u) × WT u) where
       module _ (κ : Lft) (q : Share) (d : ReadTLVs) where
         abbrev mach : Val
         mach = T′.lowered d
@@ -127,8 +127,11 @@ module _ (R : RattleType) (τ : Ty) (φ : List ℕ → ℕ → R .Denot → Type
         abbrev v : Val
         v = sliceVal (d .bytes .ptr) (length (d .bytes .now))
 
-        abbrev said : R .Denot → Type 0
-        said = φ (now (d .bytes)) (d .at)
+        abbrev Result : RattleType
+        Result = R (κ, tt)
+
+        abbrev said : Result .Denot → Type 0
+        said = φ (κ, tt) (d .bytes) (d .at)
 
         abbrev Post : Val → SProp 𝓤
         Post = walkOf 𝓤 H A over-reader stayed reader-says .post (((κ, tt), (q, tt), tt, (d, tt), (mach ∷ [], tt)), tt)
@@ -168,12 +171,12 @@ module _ (R : RattleType) (τ : Ty) (φ : List ℕ → ℕ → R .Denot → Type
             fjoin ! $ move ! (1 ∷ 0 ∷ []) $ fjoin ! $ move ! (2 ∷ 0 ∷ []) $ use2 W (raw (Promise .pre to)) asked $ frame ! $ done !)
 
         -- a shared slice has no last value to say, so of what the function promises the fact is left
-        heard-of : (r : R .Denot) → ent 𝓤 (ensured 𝓤 H A over-slice slice-says (κ, tt) (d .bytes, (d .at, tt)) tt r) (fact 𝓤 (said r))
+        heard-of : (r : Result .Denot) → ent 𝓤 (ensured 𝓤 H A over-slice slice-says (κ, tt) (d .bytes, (d .at, tt)) tt r) (fact 𝓤 (said r))
         heard-of r = exE 𝓤 _ (λ ws. snd∗ 𝓤 (sem 𝓤 H A (lasts over-slice (κ, tt) (d .bytes, (d .at, tt)) ws)) (fact 𝓤 (said r)))
 
-        exits : (r : R .Denot) (u : Val) → said r → ent 𝓤 (⋆ 𝓤 H A (‵ (R .own r (u ∷ [])) ∷ (‵ (flft κ q) ⊛ ‵ ftrue) ∷ ‵ Own ∷ [])) (Post u)
+        exits : (r : Result .Denot) (u : Val) → said r → ent 𝓤 (⋆ 𝓤 H A (‵ (Result .own r (u ∷ [])) ∷ (‵ (flft κ q) ⊛ ‵ ftrue) ∷ ‵ Own ∷ [])) (Post u)
         exits r u e =
-            qed W (‵ (R .own r (u ∷ [])) ∷ (‵ (flft κ q) ⊛ ‵ ftrue) ∷ ‵ Own ∷ []) ∵
+            qed W (‵ (Result .own r (u ∷ [])) ∷ (‵ (flft κ q) ⊛ ‵ ftrue) ∷ ‵ Own ∷ []) ∵
             suffices ! _ (ends-at 𝓤 H A over-reader stayed reader-says W (((κ, tt), (q, tt), tt, (d, tt), (mach ∷ [], tt)), tt) u r (tt, tt) (tt, tt)) $ says ! e $
             move ! (1 ∷ []) $ frame ! $ nothing ! $ move ! (2 ∷ 0 ∷ []) $ fjoin ! $ frame ! $ done !
 
@@ -186,11 +189,11 @@ module _ (R : RattleType) (τ : Ty) (φ : List ℕ → ℕ → R .Denot → Type
               assigns ! (of-opd ! (load ! (from ! (fld ! refl (stop !))) (look-in ! 4 (sub ! 1 refl (whole !))))) (from ! (stop !)) (init ! 0 refl (tt, wt .1 .1 .0)) $
               move ! (8 ∷ []) $ use1 W (raw (Promise .pre to) ⊛ ‵ Own) (apart (wt .1 .1 .0 .fits)) $ split ! $
               calls-at ! fm Promise known to (and-then ! (load ! (from ! (stop !)) (look ! 4 refl)) (and-then ! (load ! (from ! (stop !)) (look ! 2 refl)) (no-more !))) (λ u.
-              use1 W (later (some (λ (r : R .Denot). ((‵ (flft κ q) ⊛ ‵ ftrue) ⊛ ‵ (R .own r (u ∷ []))) ⊛ raw (ensured 𝓤 H A over-slice slice-says (κ, tt) (d .bytes, (d .at, tt)) tt r)))) (id⊢ 𝓤 _) $ await ! tt $ pick ! (λ r.
+              use1 W (later (some (λ (r : Result .Denot). ((‵ (flft κ q) ⊛ ‵ ftrue) ⊛ ‵ (Result .own r (u ∷ []))) ⊛ raw (ensured 𝓤 H A over-slice slice-says (κ, tt) (d .bytes, (d .at, tt)) tt r)))) (id⊢ 𝓤 _) $ await ! tt $ pick ! (λ r.
               split ! $ move ! (1 ∷ []) $ use1 W (raw (fact 𝓤 (said r))) (heard-of r) $ heard ! (said r) (λ e. split ! $ move ! (1 ∷ []) $
               -- [the result; the token; what the reader owns; the four locals and the room of each]
-              peeks ! R (Is R) (shows 𝓤 H A R) r (u ∷ []) (λ is.
-              land ! (from ! (stop !)) (init ! 9 refl (typed r u is)) $
+              peeks ! Result (Is Result) (shows 𝓤 H A Result) r (u ∷ []) (λ is.
+              land ! (from ! (stop !)) (init ! 9 refl (typed (κ, tt) r u is)) $
               returns ! (look ! 9 refl) $ forget ! 3 refl $ forget ! 5 refl $ forget ! 7 refl $ forget ! 9 refl $
               move ! (9 ∷ 10 ∷ []) $ free1 ! $ move ! (7 ∷ 8 ∷ []) $ free1 ! $ move ! (5 ∷ 6 ∷ []) $ free1 ! $ move ! (3 ∷ 4 ∷ []) $ free1 ! $ free0 ! $ by ! (exits r u e)))))))))
 
@@ -203,7 +206,7 @@ module _ (R : RattleType) (τ : Ty) (φ : List ℕ → ℕ → R .Denot → Type
 
   -- the method has the name k, and the function that it calls is the routine g
   pub thin-spec : {M : Type 1} (𝓤 : URA M) (H : Heap 𝓤) (𝓜 : Model 𝓤 H) (𝓖 : GhostRules 𝓤 H) (𝓡 : Running 𝓤 H 𝓜) (γ : Env) (k callee : Name)
-      → ((r : R .Denot) (u : Val) → Is R r (u ∷ []) → Holds (hasTy τ u) × WT u)
+      → ((κs : Lfts 1) (r : R κs .Denot) (u : Val) → Is (R κs) r (u ∷ []) → Holds (hasTy τ u) × WT u)
       → Closed 𝓤 H (tables 𝓤 H 𝓜 𝓡 γ .C) (tables 𝓤 H 𝓜 𝓡 γ .Λ) k (thin τ callee)
       → (g : Routine) → γ callee ≡ g → Triple 𝓤 (𝓡 .run g) (Promise 𝓤 H (𝓖 .A))
       → Meets 𝓤 H (𝓖 .A) (over-reader .signature) (𝓡 .run (γ k)) (closing 𝓤 H (𝓖 .A) over-reader (reader-says 𝓤 H (𝓖 .A)))

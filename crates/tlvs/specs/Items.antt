@@ -40,3 +40,20 @@ startFound at (refused why) = 0
 
 abbrev pub valueStart : List ℕ → Item → ℕ
 valueStart tail it = startFound (it .at + 3) (field (it .length) tail (it .at + 3))
+
+-- the value of what stands at a place: that of the item; where there is none, an empty one at the tail's start
+abbrev pub stepValue : List ℕ → Step → List ℕ
+stepValue tail (Step.Item it next) = valueOf tail it
+stepValue tail Step.Whole = []
+stepValue tail (Step.Cut at) = []
+
+abbrev pub valueAt : List ℕ → ℕ → List ℕ
+valueAt tail at = stepValue tail (stepAt tail at)
+
+abbrev pub stepValueStart : List ℕ → Step → ℕ
+stepValueStart tail (Step.Item it next) = valueStart tail it
+stepValueStart tail Step.Whole = 0
+stepValueStart tail (Step.Cut at) = 0
+
+abbrev pub valueStartAt : List ℕ → ℕ → ℕ
+valueStartAt tail at = stepValueStart tail (stepAt tail at)

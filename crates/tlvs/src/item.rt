@@ -16,6 +16,12 @@ pub enum Step {
     Cut(usize),
 }
 
+// A step with the value of its item, since the enum cannot hold a slice.
+pub struct StepWithValue<'a> {
+    pub step: Step,
+    pub value: &'a [u8],
+}
+
 // How the walk ends.
 pub enum End {
     // At the end of the tail, after so many items.

@@ -1,8 +1,9 @@
 ghost use mathlib.Core.Path.{_≡_};
-ghost use Rattle.tlvs.specs.Items.{stepAt};
+ghost use Rattle.wire.specs.Parts.{partAt};
+ghost use Rattle.tlvs.specs.Items.{stepAt, valueAt, valueStartAt};
 ghost use Rattle.tlvs.specs.Search.{nextDataPath, nextSynchronization};
 ghost use Rattle.tlvs.specs.Said.{saidFoundDataPath, synchronizationFound};
-use crate::item::Step;
+use crate::item::StepWithValue;
 use crate::search;
 use crate::search::FoundDataPath;
 use crate::search::FoundSynchronization;
@@ -31,11 +32,11 @@ impl<'a> ReadTLVs<'a> {
         }
     }
 
-    // What stands at the place.
-    pub fn next(self) -> Step
-        ensures { λ r. ⌜ r ≡ stepAt (now (self .entry .bytes)) (self .entry .at) ⌝ }
+    // What stands at the place, with the value of the item as that part of the tail.
+    pub fn next(self) -> StepWithValue<'a>
+        ensures { λ r. ⌜ (r .step ≡ stepAt (now (self .entry .bytes)) (self .entry .at)) × (now (r .value) ≡ valueAt (now (self .entry .bytes)) (self .entry .at)) × (r .value .ptr ≡ partAt (valueStartAt (now (self .entry .bytes)) (self .entry .at)) (self .entry .bytes .ptr)) ⌝ }
     {
-        walk::step(self.bytes, self.at)
+        walk::step_with_value(self.bytes, self.at)
     }
 
     // The first record from the place on.

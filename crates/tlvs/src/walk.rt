@@ -1,11 +1,12 @@
 ghost use mathlib.Core.Path.{_≡_};
 ghost use Rattle.wire.specs.Parts.{partAt};
-ghost use Rattle.tlvs.specs.Items.{stepAt, valueOf, valueStart};
+ghost use Rattle.tlvs.specs.Items.{stepAt, valueOf, valueStart, valueAt, valueStartAt};
 ghost use Rattle.tlvs.specs.Walk.{walk, endReport};
 ghost use Rattle.tlvs.specs.Said.{saidEnd};
 use crate::item::End;
 use crate::item::Item;
 use crate::item::Step;
+use crate::item::StepWithValue;
 use wire::Place;
 use wire::ReadU8;
 use wire::ReadU16;
@@ -24,17 +25,17 @@ pub fn step(tail: &[u8], at: usize) -> Step
         return Step::Whole;
     }
     match wire::u8_at(tail, at) {
-        ReadU8::Read(tlv_type, behind) => match wire::u16_at(tail, behind) {
-            ReadU16::Read(v, start) => {
+        ReadU8::Read(tlv_type, behind_type) => match wire::u16_at(tail, behind_type) {
+            ReadU16::Read(v, behind_length) => {
                 let length = wide(v);
-                match wire::field_at(tail, start, length) {
-                    Place::At(next) => Step::Item(
+                match wire::field_at(tail, behind_length, length) {
+                    Place::At(behind_value) => Step::Item(
                         Item {
                             at,
                             tlv_type,
                             length,
                         },
-                        next,
+                        behind_value,
                     ),
                     Place::Refused(_) => Step::Cut(at),
                 }
@@ -52,12 +53,36 @@ pub fn value(tail: &[u8], item: Item) -> &[u8]
     let at = item.at;
     let length = item.length;
     match wire::field_at(tail, at, 3) {
-        Place::At(start) => match wire::field_at(tail, start, length) {
-            Place::At(next) => &tail[start..next],
+        Place::At(behind_length) => match wire::field_at(tail, behind_length, length) {
+            Place::At(behind_value) => &tail[behind_length..behind_value],
             Place::Refused(_) => &tail[..0],
         },
         Place::Refused(_) => &tail[..0],
     }
+}
+
+// What stands at a place has a value where it is an item. The step was found there, so that the part needs no test.
+fn value_at<'a>(tail: &'a [u8], at: usize, step: Step) -> &'a [u8]
+    requires { ⌜ step ≡ stepAt (now tail) at ⌝ }
+    ensures { λ r. ⌜ (now r ≡ valueAt (now (tail .entry)) at) × (r .ptr ≡ partAt (valueStartAt (now (tail .entry)) at) (tail .entry .ptr)) ⌝ }
+{
+    match step {
+        Step::Item(_, behind_value) => {
+            let behind_length = at + 3;
+            &tail[behind_length..behind_value]
+        }
+        Step::Whole => &tail[..0],
+        Step::Cut(_) => &tail[..0],
+    }
+}
+
+// A step, and its item's value as that part of the tail. Without an item it is the empty part at the tail's start.
+pub fn step_with_value<'a>(tail: &'a [u8], at: usize) -> StepWithValue<'a>
+    ensures { λ r. ⌜ (r .step ≡ stepAt (now (tail .entry)) at) × (now (r .value) ≡ valueAt (now (tail .entry)) at) × (r .value .ptr ≡ partAt (valueStartAt (now (tail .entry)) at) (tail .entry .ptr)) ⌝ }
+{
+    let step = step(tail, at);
+    let value = value_at(tail, at, step);
+    StepWithValue { step, value }
 }
 
 // Walks the whole tail and counts.
@@ -68,8 +93,8 @@ pub fn end(tail: &[u8]) -> End
     let mut items = 0;
     loop {
         match step(tail, at) {
-            Step::Item(_, next) => {
-                at = next;
+            Step::Item(_, behind_value) => {
+                at = behind_value;
                 items += 1;
             }
             Step::Whole => return End::Whole(items),

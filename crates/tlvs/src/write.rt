@@ -22,9 +22,9 @@ pub fn write_item(tlv_type: u8, value: &[u8], buf: &mut [u8]) -> Size
     let len = value.len();
     match wire::within(buf.len(), item_size(len)) {
         Size::Bytes(n) => {
-            let behind = wire::put_u8(buf, 0, tlv_type);
-            let start = wire::put_u16(buf, behind, len as u16);
-            wire::put_slice(buf, start, value);
+            let behind_type = wire::put_u8(buf, 0, tlv_type);
+            let behind_length = wire::put_u16(buf, behind_type, len as u16);
+            wire::put_slice(buf, behind_length, value);
             Size::Bytes(n)
         }
         Size::Refused(why) => Size::Refused(why),

@@ -120,7 +120,7 @@ pub(crate) fn searches(tail: &[u8]) {
 fn next(tail: &[u8], at: usize) -> Step
     ensures { λ r. ⌜ r ≡ stepAt (now (tail .entry)) at ⌝ }
 {
-    ReadTLVs::new(tail).go_on(at).next()
+    ReadTLVs::new(tail).go_on(at).next().step
 }
 
 fn listed(item: Item) {

@@ -20,8 +20,8 @@ abbrev μ-loop : tie.MeasureT-loop
 μ-loop tail at₀ items₀ at items = length tail - at
 
 stepped : (c : tie.After-known-told Inv-loop μ-loop)
-    → stepAt (c .before .before .before .before .before .before .args .tail .now) (c .before .before .before .before .loop .at) ≡ Step.Item (c .before .next .given .0 .0) (c .before .next .given .0 .1 .0)
-stepped c = sym (c .before .before .before .step .ensures) ∙ c .before .next .given .1
+    → stepAt (c .before .before .before .before .before .before .args .tail .now) (c .before .before .before .before .loop .at) ≡ Step.Item (c .before .behind-value .given .0 .0) (c .before .behind-value .given .0 .1 .0)
+stepped c = sym (c .before .before .before .step .ensures) ∙ c .before .behind-value .given .1
 
 loop-holds : tie.Need-loop-holds Inv-loop μ-loop
 loop-holds c = (counted-none (c .before .args .tail .now), omega arith, omega arith)
@@ -29,8 +29,8 @@ loop-holds c = (counted-none (c .before .args .tail .now), omega arith, omega ar
 step-requires : tie.Need-step-requires Inv-loop μ-loop
 step-requires c κs = search needs
 
-enum-known-next : tie.Need-enum-known-next Inv-loop μ-loop
-enum-known-next c = search needs
+enum-known-behind-value : tie.Need-enum-known-behind-value Inv-loop μ-loop
+enum-known-behind-value c = search needs
 
 add-items : tie.Need-add-items Inv-loop μ-loop
 add-items c = omega (arith, step-stands _ _ (stepped c))
@@ -63,7 +63,7 @@ end-spec =
     μ-loop
     loop-holds
     step-requires
-    enum-known-next
+    enum-known-behind-value
     add-items
     loop-less
     loop-again

@@ -49,8 +49,8 @@ wide-requires c κs = search needs
 field-at-requires : tie.Need-field-at-requires
 field-at-requires c κs = search needs
 
-enum-known-next : tie.Need-enum-known-next
-enum-known-next c = search needs
+enum-known-behind-value : tie.Need-enum-known-behind-value
+enum-known-behind-value c = search needs
 
 enum-told : tie.Need-enum-told
 enum-told c = search needs
@@ -64,7 +64,7 @@ enum-told-3 c = search needs
 returns-2 : tie.Need-returns-2
 returns-2 c =
     let a = c .before .before .before .before .before .before .before .before .before .before .before .before .before .before .before .args in
-    let said = ap saidPlace (sym (c .before .next .given .1)) ∙ c .before .before .before .field-at .ensures in
+    let said = ap saidPlace (sym (c .before .behind-value .given .1)) ∙ c .before .before .before .field-at .ensures in
     let part = placed (c .before .before .before .before .wide .result) (a .tail .now) (c .before .before .before .before .before .before .v .given .0 .1 .0) said in
     rw (headed (c .before .before .before .before), part .whole)
 
@@ -100,7 +100,7 @@ step-spec =
     enum-known-v
     wide-requires
     field-at-requires
-    enum-known-next
+    enum-known-behind-value
     enum-told
     enum-told-2
     enum-told-3

@@ -1,42 +1,36 @@
 -- `value` meets its contract: the two fields that were placed are the item's first three bytes and its value; where one is short, so is the value's.
 -- Assumes nothing.
-use Prim.Native.Nat.{ℕ}
+use Rattle.tlvs.proofs.Steps.{at-start}
 use Rattle.tlvs.proofs.walk.value.Statement.{statement}
 use Rattle.tlvs.proofs.walk.value.Tie as tie
 use Rattle.wire.proofs.Bytes.{PlacedField, placed, unplaced}
 use Rattle.wire.proofs.Places.{field-past}
-use Rattle.wire.specs.Parts.{partAt}
 use Rattle.wire.specs.Reading.{field}
 use Rattle.wire.specs.Said.{saidPlace}
 use borrow.Author.Needs.{needs}
-use mathlib.Core.Path.{_≡_, sym, ap, _∙_}
-use native.Mathlib.Nat.{zero-add}
+use mathlib.Core.Path.{sym, ap, _∙_}
 use native.Mathlib.Omega.{arith}
 
 -- the item's first three bytes, and its value behind them
-head : (c : tie.After-known-told) → PlacedField 3 (c .before .before .before .before .before .args .tail .now) (c .before .before .before .before .before .args .item .at) (c .before .start .given .0 .0)
-head c = placed _ _ _ (ap saidPlace (sym (c .before .start .given .1)) ∙ c .before .before .before .field-at .ensures)
+head : (c : tie.After-known-told) → PlacedField 3 (c .before .before .before .before .before .args .tail .now) (c .before .before .before .before .before .args .item .at) (c .before .behind-length .given .0 .0)
+head c = placed _ _ _ (ap saidPlace (sym (c .before .behind-length .given .1)) ∙ c .before .before .before .field-at .ensures)
 
 part : (c : tie.After-known-told2) →
     let a = c .before .before .before .before .before .before .before .before .before .args in
-    PlacedField (a .item .length) (a .tail .now) (c .before .before .before .before .before .start .given .0 .0) (c .before .next .given .0 .0)
-part c = placed _ _ _ (ap saidPlace (sym (c .before .next .given .1)) ∙ c .before .before .before .field-at2 .ensures)
-
--- a part from the start on lies where the slice does
-at-start : (p : ℕ × ℕ) → p ≡ partAt 0 p
-at-start p = ap (λ (offset : ℕ). (p .0, offset)) (sym (zero-add (p .1)))
+    PlacedField (a .item .length) (a .tail .now) (c .before .before .before .before .before .behind-length .given .0 .0) (c .before .behind-value .given .0 .0)
+part c = placed _ _ _ (ap saidPlace (sym (c .before .behind-value .given .1)) ∙ c .before .before .before .field-at2 .ensures)
 
 field-at-requires : tie.Need-field-at-requires
 field-at-requires c κs = search needs
 
-enum-known-start : tie.Need-enum-known-start
-enum-known-start c = search needs
+enum-known-behind-length : tie.Need-enum-known-behind-length
+enum-known-behind-length c = search needs
 
 field-at-requires-2 : tie.Need-field-at-requires-2
 field-at-requires-2 c κs = search needs
 
-enum-known-next : tie.Need-enum-known-next
-enum-known-next c = search needs
+enum-known-behind-value : tie.Need-enum-known-behind-value
+enum-known-behind-value c = search needs
 
 sub-result : tie.Need-sub-result
 sub-result c = omega (arith, part c)
@@ -70,7 +64,7 @@ returns-2 c =
     let a = c .before .before .before .before .before .before .before .before .before .args in
     let said = ap saidPlace (sym (c .before .enum-told .given .1)) ∙ c .before .before .before .field-at2 .ensures in
     let start = head (c .before .before .before .before) .place in
-    let short = unplaced (field (a .item .length) (a .tail .now) (c .before .before .before .before .before .start .given .0 .0)) said in
+    let short = unplaced (field (a .item .length) (a .tail .now) (c .before .before .before .before .before .behind-length .given .0 .0)) said in
     (rw (← start, short), rw (← start, short) (at-start (a .tail .ptr)))
 
 returns-3 : tie.Need-returns-3
@@ -86,9 +80,9 @@ value-spec =
     tie.close
     (tie.spec
     field-at-requires
-    enum-known-start
+    enum-known-behind-length
     field-at-requires-2
-    enum-known-next
+    enum-known-behind-value
     sub-result
     part-result-start
     part-result-end

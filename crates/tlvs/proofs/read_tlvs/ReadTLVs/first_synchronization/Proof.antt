@@ -3,6 +3,7 @@
 use mathlib.Core.Path.{_≡_}
 use mathlib.Core.List.{[], _∷_}
 use contract.Running.{givenOf}
+use denote.Ref.{now}
 use denote.Struct.Laws as laws
 use Rattle.tlvs.specs.Said.{synchronizationFound}
 use Rattle.tlvs.specs.Search.{nextSynchronization}
@@ -18,6 +19,6 @@ use Rattle.tlvs.proofs.read_tlvs.ReadTLVs.first_synchronization.Code as
 pub first-synchronization-spec : {M : Type 1} → statement M
 unfolding code.routine
 first-synchronization-spec 𝓤 H 𝓜 𝓖 𝓡 =
-    thin-spec R.the-row R′.mir (λ bytes at r. r ≡ synchronizationFound (nextSynchronization bytes at)) 𝓤 H 𝓜 𝓖 𝓡 code.env key.name callee.name
-    (λ r u is. laws.lawful R.the-type R′.the-laws 𝓤 H (𝓖 .A) (givenOf 𝓤 H 𝓜 𝓖) .typed r (u ∷ []) is .0)
+    thin-spec (λ κs. R.the-row) R′.mir (λ κs tail at r. r ≡ synchronizationFound (nextSynchronization (now tail) at)) 𝓤 H 𝓜 𝓖 𝓡 code.env key.name callee.name
+    (λ κs r u is. laws.lawful R.the-type R′.the-laws 𝓤 H (𝓖 .A) (givenOf 𝓤 H 𝓜 𝓖) .typed r (u ∷ []) is .0)
     (code.unfolded 𝓤 H 𝓜 𝓡) callee.routine code.calls-tlvs·search·next-synchronization (known.met 𝓤 H 𝓜 𝓖 𝓡)
