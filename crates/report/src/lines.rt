@@ -8,7 +8,7 @@ ghost use Rattle.report.specs.Text.{text, decimal, named};
 ghost use Rattle.report.specs.Lines.{deltaWords, headerLine};
 ghost use Rattle.report.specs.Shown.{PutWithRoom};
 use crate::text::put_named;
-use crate::text::put_word;
+use crate::text::put_text;
 use action_frame::AWDLActionFrame;
 use action_frame::Delta;
 use action_frame::tx_delta;
@@ -44,8 +44,8 @@ pub(crate) fn one_number(out: &mut [u8], word: &[u8], n: u64) -> usize
     requires { ⌜ length (now word) ≤ 20 ⌝ }
     ensures { λ r. ⌜ PutWithRoom (now (out .entry)) 0 (now (word .entry) ++ decimal n ++ text "\n") r (now (out .exit)) ⌝ }
 {
-    let a = put_named(out, 0, word, n);
-    put_word(out, a, b"\n")
+    let behind_number = put_named(out, 0, word, n);
+    put_text(out, behind_number, b"\n")
 }
 
 // A line of two.
@@ -54,9 +54,9 @@ pub(crate) fn two_numbers(out: &mut [u8], first: &[u8], m: u64, second: &[u8], n
     requires { ⌜ length (now first) + length (now second) ≤ 40 ⌝ }
     ensures { λ r. ⌜ PutWithRoom (now (out .entry)) 0 (now (first .entry) ++ decimal m ++ (now (second .entry) ++ decimal n) ++ text "\n") r (now (out .exit)) ⌝ }
 {
-    let a = put_named(out, 0, first, m);
-    let b = put_named(out, a, second, n);
-    put_word(out, b, b"\n")
+    let behind_first = put_named(out, 0, first, m);
+    let behind_second = put_named(out, behind_first, second, n);
+    put_text(out, behind_second, b"\n")
 }
 
 fn put_delta(out: &mut [u8], at: usize, d: Delta) -> usize
@@ -66,7 +66,7 @@ fn put_delta(out: &mut [u8], at: usize, d: Delta) -> usize
 {
     match d {
         Delta::Micros(gap) => put_named(out, at, b" delta=", of_u32(gap)),
-        Delta::Refused(_) => put_word(out, at, b" delta=none"),
+        Delta::Refused(_) => put_text(out, at, b" delta=none"),
     }
 }
 
@@ -76,11 +76,11 @@ pub(crate) fn header(out: &mut [u8], f: AWDLActionFrame) -> usize
 {
     let phy = f.phy_tx_time;
     let target = f.target_tx_time;
-    let a = put_named(out, 0, b"frame subtype=", of_u8(f.subtype));
-    let b = put_named(out, a, b" phy=", of_u32(phy.0));
-    let c = put_named(out, b, b" target=", of_u32(target.0));
-    let d = put_delta(out, c, tx_delta(phy, target));
-    put_word(out, d, b"\n")
+    let behind_subtype = put_named(out, 0, b"frame subtype=", of_u8(f.subtype));
+    let behind_phy = put_named(out, behind_subtype, b" phy=", of_u32(phy.0));
+    let behind_target = put_named(out, behind_phy, b" target=", of_u32(target.0));
+    let behind_delta = put_delta(out, behind_target, tx_delta(phy, target));
+    put_text(out, behind_delta, b"\n")
 }
 
 // The place is counted from the start of the frame.
@@ -88,8 +88,8 @@ pub(crate) fn item(out: &mut [u8], place: u64, tlv_type: u64, len: u64) -> usize
     requires { ⌜ 128 ≤ length (now out) ⌝ }
     ensures { λ r. ⌜ PutWithRoom (now (out .entry)) 0 (named "item at=" place ++ named " type=" «tlv_type» ++ named " length=" len ++ text "\n") r (now (out .exit)) ⌝ }
 {
-    let a = put_named(out, 0, b"item at=", place);
-    let b = put_named(out, a, b" type=", tlv_type);
-    let c = put_named(out, b, b" length=", len);
-    put_word(out, c, b"\n")
+    let behind_place = put_named(out, 0, b"item at=", place);
+    let behind_type = put_named(out, behind_place, b" type=", tlv_type);
+    let behind_length = put_named(out, behind_type, b" length=", len);
+    put_text(out, behind_length, b"\n")
 }

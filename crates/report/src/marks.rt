@@ -8,7 +8,7 @@ ghost use Rattle.report.specs.Lines as Lines;
 ghost use Rattle.report.specs.Marks.{firstMark, atHeader, markBehind, atPlace, standsAt};
 ghost use Rattle.report.specs.Shown.{PutWithRoom, Shows};
 use crate::lines;
-use crate::text::put_word;
+use crate::text::put_text;
 use action_frame::AWDLActionFrame;
 use action_frame::ReadFrame;
 use data_path_state::DataPathStateTLV;
@@ -100,7 +100,7 @@ fn synchronization_line(value: &[u8], out: &mut [u8]) -> usize
     }
 }
 
-fn behind(item: Item, next: usize, items: usize) -> Mark
+fn mark_behind(item: Item, next: usize, items: usize) -> Mark
     ensures { λ r. ⌜ r ≡ markBehind item next items ⌝ }
 {
     if item.tlv_type == DataPathStateTLV::TLV_TYPE {
@@ -129,7 +129,7 @@ fn item_line(tail: &[u8], at: usize, items: usize, out: &mut [u8]) -> Line
         Step::Item(item, next) => {
             let tlv_type = lines::of_u8(item.tlv_type);
             let n = lines::item(out, place, tlv_type, lines::of_usize(item.length));
-            Line::Text(n, behind(item, next, items + 1))
+            Line::Text(n, mark_behind(item, next, items + 1))
         }
         Step::Whole => {
             let n = lines::one_number(out, b"end whole items=", lines::of_usize(items));
@@ -154,7 +154,7 @@ pub fn next_line(frame: &[u8], mark: Mark, out: &mut [u8; 128]) -> Line
 {
     let tail = AWDLActionFrame::tail(frame);
     match mark {
-        Mark::TooLong => Line::Text(put_word(out, 0, b"input too long\n"), Mark::End),
+        Mark::TooLong => Line::Text(put_text(out, 0, b"input too long\n"), Mark::End),
         Mark::Frame => frame_line(frame, out),
         Mark::Item(at, items) => item_line(tail, at, items, out),
         Mark::DataPath(item, next, items) => {

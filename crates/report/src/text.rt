@@ -12,16 +12,23 @@ fn digit(d: u64) -> u8
     48 + d as u8
 }
 
-// The digits above the last are those of the tenth part.
+// The last digit is found first, so they are gathered from the end of twenty places.
 fn put_decimal(buf: &mut [u8], at: usize, n: u64) -> usize
     requires { ⌜ at + length (decimal n) ≤ length (now buf) ⌝ }
     ensures { λ r. ⌜ PutWithRoom (now (buf .entry)) at (decimal n) r (now (buf .exit)) ⌝ }
 {
-    if n < 10 {
-        return wire::put_u8(buf, at, digit(n));
+    let mut digits = [0u8; 20];
+    let mut first = 20;
+    let mut rest = n;
+    loop {
+        first -= 1;
+        digits[first] = digit(rest % 10);
+        rest /= 10;
+        if rest == 0 {
+            break;
+        }
     }
-    let last = put_decimal(buf, at, n / 10);
-    wire::put_u8(buf, last, digit(n % 10))
+    wire::put_slice(buf, at, &digits[first..])
 }
 
 // No number has more than twenty digits.
@@ -30,11 +37,11 @@ pub(crate) fn put_named(buf: &mut [u8], at: usize, word: &[u8], n: u64) -> usize
     ensures { λ r. ⌜ PutWithRoom (now (buf .entry)) at (now (word .entry) ++ decimal n) r (now (buf .exit)) ⌝ }
     ensures { λ r. ⌜ r ≤ at + (length (now (word .entry)) + 20) ⌝ }
 {
-    let behind = wire::put_slice(buf, at, word);
-    put_decimal(buf, behind, n)
+    let behind_word = wire::put_slice(buf, at, word);
+    put_decimal(buf, behind_word, n)
 }
 
-pub(crate) fn put_word(buf: &mut [u8], at: usize, word: &[u8]) -> usize
+pub(crate) fn put_text(buf: &mut [u8], at: usize, word: &[u8]) -> usize
     requires { ⌜ at + length (now word) ≤ length (now buf) ⌝ }
     ensures { λ r. ⌜ PutWithRoom (now (buf .entry)) at (now (word .entry)) r (now (buf .exit)) ⌝ }
     ensures { λ r. ⌜ r ≤ at + length (now (word .entry)) ⌝ }

@@ -41,10 +41,14 @@ slice-aggregate-write-all c =
 write-all-requires : tie.Need-write-all-requires Inv-loop μ-loop
 write-all-requires c κs = search needs
 
+returns-2 : tie.Need-returns-2 Inv-loop μ-loop
+returns-2 c = tt
+
 loop-less : tie.Need-loop-less Inv-loop μ-loop
 loop-less c =
-    line-nearer (c .before .before .before .before .before .before .before .before .before .args .input .now) (c .before .before .before .before .before .before .before .loop .at)
-    (c .before .before .before .before .before .next-line .ensures) (c .before .before .before .n .given .1)
+    line-nearer (c .before .before .before .before .before .before .before .before .before .before .args .input .now)
+    (c .before .before .before .before .before .before .before .before .loop .at)
+    (c .before .before .before .before .before .before .next-line .ensures) (c .before .before .before .before .n .given .1)
 
 loop-again : tie.Need-loop-again Inv-loop μ-loop
 loop-again c = tt
@@ -63,5 +67,6 @@ show-spec =
     array-share-prefix-line
     slice-aggregate-write-all
     write-all-requires
+    returns-2
     loop-less
     loop-again)

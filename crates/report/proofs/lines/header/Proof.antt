@@ -38,11 +38,11 @@ tx-delta-requires c κs = search needs
 put-delta-requires : tie.Need-put-delta-requires
 put-delta-requires c κs = search needs
 
-slice-aggregate-put-word : tie.Need-slice-aggregate-put-word
-slice-aggregate-put-word c = search needs
+slice-aggregate-put-text : tie.Need-slice-aggregate-put-text
+slice-aggregate-put-text c = search needs
 
-put-word-requires : tie.Need-put-word-requires
-put-word-requires c κs = search needs
+put-text-requires : tie.Need-put-text-requires
+put-text-requires c κs = search needs
 
 same-length : tie.Need-same-length
 same-length c = search needs
@@ -53,7 +53,7 @@ returns c =
     let phy = rw (c .before .before .before .before .before .before .before .before .before .before .before .before .before .before .before .before .before .before .before .of-u32 .ensures) at (c .before .before .before .before .before .before .before .before .before .before .before .before .before .before .before .before .before .before .put-named2 .ensures .0) in
     let target = rw (c .before .before .before .before .before .before .before .before .before .before .before .before .before .of-u322 .ensures) at (c .before .before .before .before .before .before .before .before .before .before .before .before .put-named3 .ensures .0) in
     let gap = rw (c .before .before .before .before .before .before .before .before .tx-delta .ensures) at (c .before .before .before .before .before .before .before .put-delta .ensures .0) in
-    room-then (room-then (room-then (room-then subtype phy) target) gap) (c .before .before .put-word .ensures .0)
+    room-then (room-then (room-then (room-then subtype phy) target) gap) (c .before .before .put-text .ensures .0)
 
 pub header-spec : {M : Type 1} → statement M
 header-spec =
@@ -70,7 +70,7 @@ header-spec =
     put-named-requires-3
     tx-delta-requires
     put-delta-requires
-    slice-aggregate-put-word
-    put-word-requires
+    slice-aggregate-put-text
+    put-text-requires
     same-length
     returns)

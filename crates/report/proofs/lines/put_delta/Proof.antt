@@ -20,11 +20,11 @@ put-named-requires c κs = search needs
 enum-told : tie.Need-enum-told
 enum-told c = search needs
 
-slice-aggregate-put-word : tie.Need-slice-aggregate-put-word
-slice-aggregate-put-word c = search needs
+slice-aggregate-put-text : tie.Need-slice-aggregate-put-text
+slice-aggregate-put-text c = search needs
 
-put-word-requires : tie.Need-put-word-requires
-put-word-requires c κs = search needs
+put-text-requires : tie.Need-put-text-requires
+put-text-requires c κs = search needs
 
 same-length : tie.Need-same-length
 same-length c = search needs
@@ -40,7 +40,7 @@ same-length-2 c = search needs
 
 returns-2 : tie.Need-returns-2
 returns-2 c =
-    let put = c .before .before .put-word .ensures in
+    let put = c .before .before .put-text .ensures in
     let bound = put .1 in
     (rw (c .before .before .before .before .before .enum-told .given .1) (put .0), omega arith)
 
@@ -53,8 +53,8 @@ put-delta-spec =
     of-u32-requires
     put-named-requires
     enum-told
-    slice-aggregate-put-word
-    put-word-requires
+    slice-aggregate-put-text
+    put-text-requires
     same-length
     returns
     same-length-2

@@ -40,11 +40,11 @@ of-usize-requires-2 c κs = search needs
 item-requires : tie.Need-item-requires
 item-requires c κs = search needs
 
-add-behind : tie.Need-add-behind
-add-behind c = search needs
+add-mark-behind : tie.Need-add-mark-behind
+add-mark-behind c = search needs
 
-behind-requires : tie.Need-behind-requires
-behind-requires c κs = search needs
+mark-behind-requires : tie.Need-mark-behind-requires
+mark-behind-requires c κs = search needs
 
 enum-told : tie.Need-enum-told
 enum-told c = search needs
@@ -81,7 +81,7 @@ returns-3 c =
     let a = c .before .before .before .before .before .before .before .before .before .before .before .before .before .before .before .before .args in
     let told = sym (c .before .before .before .before .before .before .before .before .before .before .step .ensures) ∙ c .before .before .before .before .before .before .before .before .item .given .1 in
     let there = step-stands (a .tail .now) (a .at) told .place in
-    shows-line {l = itemLine (c .before .before .before .before .before .before .before .before .item .given .0 .0)} (steps-to (a .tail .now) (a .at) (a .items) (c .before .before .before .before .before .before .before .before .before .before .before .before .before .if1 .left) (c .before .before .before .before .before .before .before .before .before .before .before .before .if2 .left) told ∙ rw (c .behind .ensures))
+    shows-line {l = itemLine (c .before .before .before .before .before .before .before .before .item .given .0 .0)} (steps-to (a .tail .now) (a .at) (a .items) (c .before .before .before .before .before .before .before .before .before .before .before .before .before .if1 .left) (c .before .before .before .before .before .before .before .before .before .before .before .before .if2 .left) told ∙ rw (c .mark-behind .ensures))
     (rw there (rw (c .before .before .before .before .before .before .before .before .before .before .before .of-usize .ensures, c .before .before .before .before .before .before .of-u8 .ensures, c .before .before .before .before .of-usize2 .ensures) at (c .before .before .before .item2 .ensures)))
 
 same-length-2 : tie.Need-same-length-2
@@ -118,8 +118,8 @@ item-line-spec =
     of-u8-requires
     of-usize-requires-2
     item-requires
-    add-behind
-    behind-requires
+    add-mark-behind
+    mark-behind-requires
     enum-told
     slice-aggregate-one-number
     of-usize-requires-3

@@ -13,11 +13,11 @@ tail-requires c κs = search needs
 enum-told : tie.Need-enum-told
 enum-told c = search needs
 
-slice-aggregate-put-word : tie.Need-slice-aggregate-put-word
-slice-aggregate-put-word c = search needs
+slice-aggregate-put-text : tie.Need-slice-aggregate-put-text
+slice-aggregate-put-text c = search needs
 
-put-word-requires : tie.Need-put-word-requires
-put-word-requires c κs = search needs
+put-text-requires : tie.Need-put-text-requires
+put-text-requires c κs = search needs
 
 enum-told-2 : tie.Need-enum-told-2
 enum-told-2 c = search needs
@@ -53,7 +53,7 @@ enum-told-3 : tie.Need-enum-told-3
 enum-told-3 c = search needs
 
 returns : tie.Need-returns
-returns c = shows-line (ap (standsAt (c .before .before .before .before .before .before .before .args .frame .now)) (c .before .before .before .enum-told .given .1)) (c .put-word .ensures .0)
+returns c = shows-line (ap (standsAt (c .before .before .before .before .before .before .before .args .frame .now)) (c .before .before .before .enum-told .given .1)) (c .put-text .ensures .0)
 
 returns-2 : tie.Need-returns-2
 returns-2 c = rw (c .before .before .enum-told2 .given .1) (c .frame-line .ensures)
@@ -80,8 +80,8 @@ next-line-spec =
     (tie.spec
     tail-requires
     enum-told
-    slice-aggregate-put-word
-    put-word-requires
+    slice-aggregate-put-text
+    put-text-requires
     enum-told-2
     frame-line-requires
     enum-known-mark

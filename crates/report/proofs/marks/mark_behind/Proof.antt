@@ -1,7 +1,7 @@
--- `behind` meets its contract: each test that led to a mark is one of `behindItem`.
+-- `mark_behind` meets its contract: each test that led to a mark is one of `markBehind`.
 -- Assumes nothing.
-use Rattle.report.proofs.marks.behind.Statement.{statement}
-use Rattle.report.proofs.marks.behind.Tie as tie
+use Rattle.report.proofs.marks.mark_behind.Statement.{statement}
+use Rattle.report.proofs.marks.mark_behind.Tie as tie
 use borrow.Author.Tests.{eq-eqb, ne-eqb}
 
 returns : tie.Need-returns
@@ -17,5 +17,5 @@ returns-3 c =
     let n = c .before .before .before .before .args .item .«tlv_type» in
     rw (ne-eqb n 0x0C (c .before .before .if1 .left), ne-eqb n 0x04 (c .if2 .left))
 
-pub behind-spec : {M : Type 1} → statement M
-behind-spec = tie.close (tie.spec returns returns-2 returns-3)
+pub mark-behind-spec : {M : Type 1} → statement M
+mark-behind-spec = tie.close (tie.spec returns returns-2 returns-3)
