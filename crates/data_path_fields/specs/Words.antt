@@ -1,10 +1,16 @@
--- The words of the record: which bits they keep, and what the channel word stands for.
+-- The words of the record: how their bits are tested, which bits they keep, and what the channel word stands for.
 use Prim.Native.Nat.{ℕ, _%_, _^_}
-use mathlib.Core.Bool.{cond}
+use mathlib.Core.Bool.{Bool, not, cond}
 use mathlib.Core.List.{List, [], _∷_}
+use lib.Bits.{bitAnd}
+use lib.Dec.{eqb}
 use Rattle.wire.specs.Numbers.{bit}
 use Rattle.wire.specs.Words.{Run, keep, clear}
 use Rattle.data_path_fields.specs.declared.misc.DataPathChannel.{DataPathChannel}
+
+-- whether a word has one of the bits that a mask has
+abbrev pub hasAny : ℕ → ℕ → Bool
+hasAny w mask = not (eqb (bitAnd w mask) 0)
 
 -- the keep mask 0xFF7F: bit 7 is dropped
 abbrev pub extendedKept : List Run

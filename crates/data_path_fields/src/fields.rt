@@ -1,10 +1,17 @@
 ghost use mathlib.Core.Path.{_≡_};
 ghost use Rattle.wire.specs.Words.{wordBy};
-ghost use Rattle.data_path_fields.specs.Words.{extendedKept};
+ghost use Rattle.data_path_fields.specs.Words.{extendedKept, hasAny};
 use crate::misc::DataPathChannel;
 use crate::misc::DataPathStats;
 use crate::misc::UnicastOptions;
 use wire::MACAddress;
+
+// Whether a word has one of the bits of a mask. A mask without bits finds none.
+pub fn has(word: u16, mask: u16) -> bool
+    ensures { λ r. ⌜ r ≡ hasAny word mask ⌝ }
+{
+    word & mask != 0
+}
 
 pub struct DataPathFlags(pub u16);
 
@@ -40,8 +47,6 @@ impl DataPathFlags {
     pub const RANGEABLE: u16 = 0x4000;
 
     pub const EXTENDED_FLAGS: u16 = 0x8000;
-
-    pub const KEEP: u16 = 0xFFFF;
 }
 
 pub struct DataPathExtendedFlags(pub u16);
@@ -74,8 +79,22 @@ impl DataPathExtendedFlags {
     pub const PRO_MODE_ACTIVE: u16 = 0x2000;
 
     pub const UNKNOWN: u16 = 0xC000;
-    // All of the above. Bit 7 has no name and is dropped.
-    pub const KEEP: u16 = 0xFF7F;
+
+    // Bit 7 has no name and is dropped.
+    pub const KEEP: u16 = DataPathExtendedFlags::LOG_TRIGGER_ID_PRESENT
+        | DataPathExtendedFlags::RANGING_DISCOVERY_SUPPORTED
+        | DataPathExtendedFlags::RLFC_PRESENT
+        | DataPathExtendedFlags::IS_SOCIAL_CHANNEL_MAP_SUPPORTED
+        | DataPathExtendedFlags::DYNAMIC_SDB_ACTIVE
+        | DataPathExtendedFlags::STATS_PRESENT
+        | DataPathExtendedFlags::DFS_PROXY_SUPPORT
+        | DataPathExtendedFlags::HIGH_EFFICIENCY_SUPPORT
+        | DataPathExtendedFlags::IS_SIDEKICK_HUB
+        | DataPathExtendedFlags::FAST_DISCOVERY_ACTIVE
+        | DataPathExtendedFlags::WIFI_SIX_E_SUPPORT
+        | DataPathExtendedFlags::ULTRA_LOW_LATENCY_INFRA_SUPPORT
+        | DataPathExtendedFlags::PRO_MODE_ACTIVE
+        | DataPathExtendedFlags::UNKNOWN;
 
     pub fn from_bits(bits: u16) -> DataPathExtendedFlags
         ensures { λ r. ⌜ r .0 ≡ wordBy extendedKept bits ⌝ }

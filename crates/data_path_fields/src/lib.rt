@@ -19,6 +19,11 @@ pub use misc::ChannelMap;
 pub use misc::DataPathChannel;
 pub use misc::DataPathStats;
 pub use misc::UnicastOptions;
+
+// The record is put together in a crate of its own, `data_path_state`, since a check's time grows
+// with a crate. Only for that crate the readers of the two parts of a record are public, and with
+// them what they answer, and `has`: a caller takes the record's own reader.
+pub use fields::has;
 pub use read::Addresses;
 pub use read::Body;
 pub use read::Extended;

@@ -17,7 +17,7 @@ impl ChannelMap {
 
     pub const CHANNEL_149: u16 = 0x0004;
 
-    pub const KEEP: u16 = 0x0007;
+    pub const KEEP: u16 = ChannelMap::CHANNEL_6 | ChannelMap::CHANNEL_44 | ChannelMap::CHANNEL_149;
 }
 
 pub enum DataPathChannel {

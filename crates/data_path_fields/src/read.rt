@@ -15,6 +15,7 @@ use crate::fields::OptionalOptions;
 use crate::fields::OptionalStats;
 use crate::fields::OptionalTriggerId;
 use crate::fields::OptionalWord;
+use crate::fields::has;
 use crate::misc::DataPathChannel;
 use crate::misc::DataPathStats;
 use crate::misc::UnicastOptions;
@@ -89,7 +90,8 @@ fn channel_map(s: &[u8], at: usize, present: bool) -> ReadChannel
     }
 }
 
-// What stands in front of the addresses.
+// What stands in front of the addresses. This part of the record, those below, and the readers of
+// the head and of the body are public only because the record stands in a crate of its own.
 pub struct Head {
     pub flags: u16,
     pub country: CountryCode,
@@ -106,10 +108,10 @@ pub fn read_head(s: &[u8]) -> ReadHead
 {
     match wire::u16_at(s, 0) {
         ReadU16::Read(flags, behind_flags) => {
-            let has_country = flags / DataPathFlags::COUNTRY_CODE_PRESENT % 2 == 1;
+            let has_country = has(flags, DataPathFlags::COUNTRY_CODE_PRESENT);
             match country_code(s, behind_flags, has_country) {
                 ReadCountry::Read(country, behind_country) => {
-                    let has_channel = flags / DataPathFlags::CHANNEL_MAP_PRESENT % 2 == 1;
+                    let has_channel = has(flags, DataPathFlags::CHANNEL_MAP_PRESENT);
                     match channel_map(s, behind_country, has_channel) {
                         ReadChannel::Read(channel, next) => {
                             return ReadHead::Read(
@@ -204,6 +206,7 @@ fn one_address(s: &[u8], at: usize, present: bool) -> ReadOptionalAddress
     }
 }
 
+// A part of the body, and public only for that.
 pub struct Addresses {
     pub bssid: InfraBssidChannel,
     pub infra: OptionalAddress,
@@ -218,19 +221,23 @@ pub(crate) enum ReadAddresses {
 fn read_addresses(s: &[u8], at: usize, flags: u16) -> ReadAddresses
     ensures { λ r. ⌜ saidAddresses r ≡ D.addresses flags (now (s .entry)) at ⌝ }
 {
-    let has_bssid = flags / DataPathFlags::INFRA_BSSID_CHANNEL_PRESENT % 2 == 1;
-    let has_infra = flags / DataPathFlags::INFRA_ADDRESS_PRESENT % 2 == 1;
-    let has_awdl = flags / DataPathFlags::AWDL_ADDRESS_PRESENT % 2 == 1;
+    let has_bssid = has(flags, DataPathFlags::INFRA_BSSID_CHANNEL_PRESENT);
     match infra_bssid_channel(s, at, has_bssid) {
-        ReadInfra::Read(bssid, behind) => match one_address(s, behind, has_infra) {
-            ReadOptionalAddress::Read(infra, behind) => match one_address(s, behind, has_awdl) {
-                ReadOptionalAddress::Read(awdl, next) => {
-                    return ReadAddresses::Read(Addresses { bssid, infra, awdl }, next);
+        ReadInfra::Read(bssid, behind_bssid) => {
+            let has_infra = has(flags, DataPathFlags::INFRA_ADDRESS_PRESENT);
+            match one_address(s, behind_bssid, has_infra) {
+                ReadOptionalAddress::Read(infra, behind_infra) => {
+                    let has_awdl = has(flags, DataPathFlags::AWDL_ADDRESS_PRESENT);
+                    match one_address(s, behind_infra, has_awdl) {
+                        ReadOptionalAddress::Read(awdl, next) => {
+                            return ReadAddresses::Read(Addresses { bssid, infra, awdl }, next);
+                        }
+                        ReadOptionalAddress::Refused(why) => return ReadAddresses::Refused(why),
+                    }
                 }
                 ReadOptionalAddress::Refused(why) => return ReadAddresses::Refused(why),
-            },
-            ReadOptionalAddress::Refused(why) => return ReadAddresses::Refused(why),
-        },
+            }
+        }
         ReadInfra::Refused(why) => return ReadAddresses::Refused(why),
     }
 }
@@ -264,7 +271,8 @@ fn one_word(s: &[u8], at: usize, present: bool) -> ReadWord
     }
 }
 
-// The options, and the word that follows them where the length is 8.
+// The options, and the word that follows them where the length is 8. It is a part of the body, and
+// public only for that.
 pub struct Unicast {
     pub options: OptionalOptions,
     pub ext: OptionalWord,
@@ -308,12 +316,12 @@ fn read_unicast(s: &[u8], at: usize, present: bool) -> ReadUnicast
         return ReadUnicast::Read(Unicast { options, ext }, at);
     }
     match wire::u16_at(s, at) {
-        ReadU16::Read(length, next) => {
+        ReadU16::Read(length, behind_length) => {
             if length == 4 {
-                return options_and_ext(s, next, false);
+                return options_and_ext(s, behind_length, false);
             }
             if length == 8 {
-                return options_and_ext(s, next, true);
+                return options_and_ext(s, behind_length, true);
             }
             ReadUnicast::Refused(Refusal::UnicastLength)
         }
@@ -399,6 +407,8 @@ fn stats(s: &[u8], at: usize, present: bool) -> ReadStats
     )
 }
 
+// The extended flags, and the fields that they announce. It is a part of the body, and public only
+// for that.
 pub struct Extended {
     pub flags: OptionalExtendedFlags,
     pub trigger: OptionalTriggerId,
@@ -414,13 +424,13 @@ pub(crate) enum ReadExtended {
 fn announced(s: &[u8], at: usize, word: u16) -> ReadExtended
     ensures { λ r. ⌜ saidExtended r ≡ D.extendedOf word (now (s .entry)) at ⌝ }
 {
-    let has_trigger = word / DataPathExtendedFlags::LOG_TRIGGER_ID_PRESENT % 2 == 1;
+    let has_trigger = has(word, DataPathExtendedFlags::LOG_TRIGGER_ID_PRESENT);
     match log_trigger_id(s, at, has_trigger) {
         ReadTriggerId::Read(trigger, behind_trigger) => {
-            let has_rlfc = word / DataPathExtendedFlags::RLFC_PRESENT % 2 == 1;
+            let has_rlfc = has(word, DataPathExtendedFlags::RLFC_PRESENT);
             match one_word(s, behind_trigger, has_rlfc) {
                 ReadWord::Read(rlfc, behind_rlfc) => {
-                    let has_stats = word / DataPathExtendedFlags::STATS_PRESENT % 2 == 1;
+                    let has_stats = has(word, DataPathExtendedFlags::STATS_PRESENT);
                     match stats(s, behind_rlfc, has_stats) {
                         ReadStats::Read(stats, next) => {
                             let flags = OptionalExtendedFlags {
@@ -486,15 +496,15 @@ fn read_extended(s: &[u8], at: usize, present: bool) -> ReadExtended
         return ReadExtended::Read(no_extended(), at);
     }
     match wire::u16_at(s, at) {
-        ReadU16::Read(word, next) => {
+        ReadU16::Read(word, behind_flags) => {
             let kept = DataPathExtendedFlags::from_bits(word);
-            announced(s, next, kept.0)
+            announced(s, behind_flags, kept.0)
         }
         ReadU16::Refused(why) => ReadExtended::Refused(why),
     }
 }
 
-// What stands behind the channel word.
+// What stands behind the channel word. As the head, it is public for the crate of the record.
 pub struct Body {
     pub addresses: Addresses,
     pub unicast: Unicast,
@@ -511,10 +521,10 @@ pub fn read_body(s: &[u8], at: usize, flags: u16) -> ReadBody
 {
     match read_addresses(s, at, flags) {
         ReadAddresses::Read(addresses, behind_addresses) => {
-            let has_unicast = flags / DataPathFlags::UNICAST_OPTIONS_PRESENT % 2 == 1;
+            let has_unicast = has(flags, DataPathFlags::UNICAST_OPTIONS_PRESENT);
             match read_unicast(s, behind_addresses, has_unicast) {
                 ReadUnicast::Read(unicast, behind_unicast) => {
-                    let has_extended = flags / DataPathFlags::EXTENDED_FLAGS % 2 == 1;
+                    let has_extended = has(flags, DataPathFlags::EXTENDED_FLAGS);
                     match read_extended(s, behind_unicast, has_extended) {
                         ReadExtended::Read(extended, next) => {
                             return ReadBody::Read(

@@ -8,6 +8,7 @@ use data_path_fields::DataPathExtendedFlags;
 use data_path_fields::DataPathFlags;
 use data_path_fields::DataPathStats;
 use data_path_fields::UnicastOptions;
+use data_path_fields::has;
 use wire::MACAddress;
 
 // The tests below have no branches: each is a formula, as its definition is.
@@ -16,17 +17,16 @@ pub(crate) fn bits_match(r: DataPathStateTLV) -> bool
 {
     let w = r.flags.0;
     let e = r.extended_flags.flags.0;
-    ((w / DataPathFlags::INFRA_BSSID_CHANNEL_PRESENT % 2 == 1) == r.infra_bssid_channel.present)
-        & ((w / DataPathFlags::INFRA_ADDRESS_PRESENT % 2 == 1) == r.infra_address.present)
-        & ((w / DataPathFlags::AWDL_ADDRESS_PRESENT % 2 == 1) == r.awdl_address.present)
-        & ((w / DataPathFlags::COUNTRY_CODE_PRESENT % 2 == 1) == r.country_code.present)
-        & ((w / DataPathFlags::CHANNEL_MAP_PRESENT % 2 == 1) == r.channel_map.present)
-        & ((w / DataPathFlags::UNICAST_OPTIONS_PRESENT % 2 == 1) == r.unicast_options.present)
-        & ((w / DataPathFlags::EXTENDED_FLAGS % 2 == 1) == r.extended_flags.present)
-        & (((e / DataPathExtendedFlags::LOG_TRIGGER_ID_PRESENT % 2 == 1)
-            == r.log_trigger_id.present)
-            & ((e / DataPathExtendedFlags::RLFC_PRESENT % 2 == 1) == r.rlfc.present)
-            & ((e / DataPathExtendedFlags::STATS_PRESENT % 2 == 1) == r.stats.present))
+    (has(w, DataPathFlags::INFRA_BSSID_CHANNEL_PRESENT) == r.infra_bssid_channel.present)
+        & (has(w, DataPathFlags::INFRA_ADDRESS_PRESENT) == r.infra_address.present)
+        & (has(w, DataPathFlags::AWDL_ADDRESS_PRESENT) == r.awdl_address.present)
+        & (has(w, DataPathFlags::COUNTRY_CODE_PRESENT) == r.country_code.present)
+        & (has(w, DataPathFlags::CHANNEL_MAP_PRESENT) == r.channel_map.present)
+        & (has(w, DataPathFlags::UNICAST_OPTIONS_PRESENT) == r.unicast_options.present)
+        & (has(w, DataPathFlags::EXTENDED_FLAGS) == r.extended_flags.present)
+        & ((has(e, DataPathExtendedFlags::LOG_TRIGGER_ID_PRESENT) == r.log_trigger_id.present)
+            & (has(e, DataPathExtendedFlags::RLFC_PRESENT) == r.rlfc.present)
+            & (has(e, DataPathExtendedFlags::STATS_PRESENT) == r.stats.present))
 }
 
 pub(crate) fn only_with(r: DataPathStateTLV) -> bool

@@ -24,6 +24,8 @@ use data_path_fields::OptionalTriggerId;
 use data_path_fields::OptionalWord;
 use data_path_fields::ReadBody;
 use data_path_fields::ReadHead;
+use data_path_fields::read_body;
+use data_path_fields::read_head;
 use wire::AWDLTLVType;
 use wire::Refusal;
 use wire::Size;
@@ -60,10 +62,10 @@ impl DataPathStateTLV {
     pub fn read(s: &[u8]) -> ReadDataPathState
         ensures { λ r. ⌜ saidDataPath r ≡ dataPath (now (s .entry)) 0 ⌝ }
     {
-        match data_path_fields::read_head(s) {
-            ReadHead::Read(head, at) => match data_path_fields::read_body(s, at, head.flags) {
+        match read_head(s) {
+            ReadHead::Read(head, behind_head) => match read_body(s, behind_head, head.flags) {
                 ReadBody::Read(body, size) => {
-                    return ReadDataPathState::Read(whole(head, body), size);
+                    return ReadDataPathState::Read(record_of(head, body), size);
                 }
                 ReadBody::Refused(why) => return ReadDataPathState::Refused(why),
             },
@@ -125,7 +127,7 @@ impl DataPathStateTLV {
     }
 }
 
-fn whole(head: Head, body: Body) -> DataPathStateTLV
+fn record_of(head: Head, body: Body) -> DataPathStateTLV
     ensures { λ r. ⌜ r ≡ D.recordOf head body ⌝ }
 {
     let country_code = head.country;

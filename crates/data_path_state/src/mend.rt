@@ -20,10 +20,21 @@ use data_path_fields::OptionalWord;
 use data_path_fields::UnicastOptions;
 use wire::MACAddress;
 
-// The bits of the flags that announce no field, and those of the extended word that have a name and announce none.
-const OTHER_FLAGS: u16 = 0x6CF8;
+// The bits that announce no field, of the flags and of the extended word.
+const OTHER_FLAGS: u16 = DataPathFlags::RSDB_SUPPORT
+    | DataPathFlags::IS_UMI
+    | DataPathFlags::DUALBAND_SUPPORT
+    | DataPathFlags::AIRPLAY_SINK
+    | DataPathFlags::FOLLOW_CHANNEL_SEQUENCE
+    | DataPathFlags::AIRPLAY_SOLO_MODE_SUPPORT
+    | DataPathFlags::UMI_SUPPORT
+    | DataPathFlags::IS_REALTIME
+    | DataPathFlags::RANGEABLE;
 
-const OTHER_EXTENDED: u16 = 0xFF5A;
+const OTHER_EXTENDED: u16 = DataPathExtendedFlags::KEEP
+    - DataPathExtendedFlags::LOG_TRIGGER_ID_PRESENT
+    - DataPathExtendedFlags::RLFC_PRESENT
+    - DataPathExtendedFlags::STATS_PRESENT;
 
 // A presence bit: its value where the field is there.
 fn bit(present: bool, value: u16) -> u16

@@ -21,7 +21,7 @@ fn counted(present: bool, n: usize) -> usize
 pub(crate) fn sum(r: DataPathStateTLV) -> usize
     ensures { λ n. ⌜ n ≡ B.sum r ⌝ }
 {
-    2
+    DataPathStateTLV::MIN_SIZE
         + counted(r.country_code.present, 3)
         + counted(r.channel_map.present, 2)
         + counted(r.infra_bssid_channel.present, 8)
@@ -36,7 +36,7 @@ pub(crate) fn sum(r: DataPathStateTLV) -> usize
 }
 
 // Puts the bytes of a field where it is there, and nothing where it is not.
-fn put_present(buf: &mut [u8], at: usize, present: bool, bytes: &[u8]) -> usize
+fn put_optional(buf: &mut [u8], at: usize, present: bool, bytes: &[u8]) -> usize
     ensures { λ r. ⌜ Put (now (buf .entry)) at (cond present (now (bytes .entry)) []) r (now (buf .exit)) ⌝ }
 {
     if present {
@@ -45,44 +45,46 @@ fn put_present(buf: &mut [u8], at: usize, present: bool, bytes: &[u8]) -> usize
     at
 }
 
-fn put_short(buf: &mut [u8], at: usize, present: bool, v: u16) -> usize
+fn put_optional_u16(buf: &mut [u8], at: usize, present: bool, v: u16) -> usize
     ensures { λ r. ⌜ Put (now (buf .entry)) at (cond present (littleBytes 2 v) []) r (now (buf .exit)) ⌝ }
 {
-    put_present(buf, at, present, &wire::u16_bytes(v))
+    put_optional(buf, at, present, &wire::u16_bytes(v))
 }
 
-fn put_word(buf: &mut [u8], at: usize, present: bool, v: u32) -> usize
+fn put_optional_u32(buf: &mut [u8], at: usize, present: bool, v: u32) -> usize
     ensures { λ r. ⌜ Put (now (buf .entry)) at (cond present (littleBytes 4 v) []) r (now (buf .exit)) ⌝ }
 {
-    put_present(buf, at, present, &wire::u32_bytes(v))
+    put_optional(buf, at, present, &wire::u32_bytes(v))
 }
 
-fn put_address(buf: &mut [u8], at: usize, present: bool, a: MACAddress) -> usize
+fn put_optional_address(buf: &mut [u8], at: usize, present: bool, a: MACAddress) -> usize
     ensures { λ r. ⌜ Put (now (buf .entry)) at (cond present (addressBytes a) []) r (now (buf .exit)) ⌝ }
 {
-    put_present(buf, at, present, &[a.0, a.1, a.2, a.3, a.4, a.5])
+    put_optional(buf, at, present, &[a.0, a.1, a.2, a.3, a.4, a.5])
 }
 
 // Each of these puts a part of the record, field after field.
 fn put_head(buf: &mut [u8], at: usize, r: DataPathStateTLV) -> usize
     ensures { λ n. ⌜ PutIfRoom (now (buf .entry)) at (B.headBytes r) n (now (buf .exit)) ⌝ }
 {
-    let country = wire::put_u16(buf, at, r.flags.0);
+    let behind_flags = wire::put_u16(buf, at, r.flags.0);
     let c = r.country_code;
-    let channel = put_present(buf, country, c.present, &[c.first, c.second, 0]);
+    let behind_country = put_optional(buf, behind_flags, c.present, &[c.first, c.second, 0]);
     let map = r.channel_map;
     let word = map.channel;
-    put_short(buf, channel, map.present, word.as_u16())
+    put_optional_u16(buf, behind_country, map.present, word.as_u16())
 }
 
 fn put_addresses(buf: &mut [u8], at: usize, r: DataPathStateTLV) -> usize
     ensures { λ n. ⌜ PutIfRoom (now (buf .entry)) at (B.addressesBytes r) n (now (buf .exit)) ⌝ }
 {
     let bssid = r.infra_bssid_channel;
-    let channel = put_address(buf, at, bssid.present, bssid.bssid);
-    let infra = put_short(buf, channel, bssid.present, bssid.channel);
-    let awdl = put_address(buf, infra, r.infra_address.present, r.infra_address.address);
-    put_address(buf, awdl, r.awdl_address.present, r.awdl_address.address)
+    let behind_bssid = put_optional_address(buf, at, bssid.present, bssid.bssid);
+    let behind_channel = put_optional_u16(buf, behind_bssid, bssid.present, bssid.channel);
+    let infra = r.infra_address;
+    let behind_infra = put_optional_address(buf, behind_channel, infra.present, infra.address);
+    let awdl = r.awdl_address;
+    put_optional_address(buf, behind_infra, awdl.present, awdl.address)
 }
 
 fn unicast_length(second: bool) -> u16
@@ -96,9 +98,9 @@ fn put_unicast(buf: &mut [u8], at: usize, r: DataPathStateTLV) -> usize
 {
     if r.unicast_options.present {
         let second = r.unicast_options_ext;
-        let options = wire::put_u16(buf, at, unicast_length(second.present));
-        let ext = wire::put_u32(buf, options, r.unicast_options.options.0);
-        return put_word(buf, ext, second.present, second.word);
+        let behind_length = wire::put_u16(buf, at, unicast_length(second.present));
+        let behind_options = wire::put_u32(buf, behind_length, r.unicast_options.options.0);
+        return put_optional_u32(buf, behind_options, second.present, second.word);
     }
     at
 }
@@ -106,19 +108,20 @@ fn put_unicast(buf: &mut [u8], at: usize, r: DataPathStateTLV) -> usize
 fn put_stats(buf: &mut [u8], at: usize, s: OptionalStats) -> usize
     ensures { λ n. ⌜ PutIfRoom (now (buf .entry)) at (B.statsBytes s) n (now (buf .exit)) ⌝ }
 {
-    let aw = put_word(buf, at, s.present, s.stats.msec_since_activation);
-    let pay = put_word(buf, aw, s.present, s.stats.aw_seq_counter);
-    put_word(buf, pay, s.present, s.stats.pay_update_coutner)
+    let behind_msec = put_optional_u32(buf, at, s.present, s.stats.msec_since_activation);
+    let behind_aw = put_optional_u32(buf, behind_msec, s.present, s.stats.aw_seq_counter);
+    put_optional_u32(buf, behind_aw, s.present, s.stats.pay_update_coutner)
 }
 
 fn put_extended(buf: &mut [u8], at: usize, r: DataPathStateTLV) -> usize
     ensures { λ n. ⌜ PutIfRoom (now (buf .entry)) at (B.extendedBytes r) n (now (buf .exit)) ⌝ }
 {
     if r.extended_flags.present {
-        let trigger = wire::put_u16(buf, at, r.extended_flags.flags.0);
-        let rlfc = put_short(buf, trigger, r.log_trigger_id.present, r.log_trigger_id.id);
-        let stats = put_word(buf, rlfc, r.rlfc.present, r.rlfc.word);
-        return put_stats(buf, stats, r.stats);
+        let behind_flags = wire::put_u16(buf, at, r.extended_flags.flags.0);
+        let trigger = r.log_trigger_id;
+        let behind_trigger = put_optional_u16(buf, behind_flags, trigger.present, trigger.id);
+        let behind_rlfc = put_optional_u32(buf, behind_trigger, r.rlfc.present, r.rlfc.word);
+        return put_stats(buf, behind_rlfc, r.stats);
     }
     at
 }
@@ -126,8 +129,8 @@ fn put_extended(buf: &mut [u8], at: usize, r: DataPathStateTLV) -> usize
 pub(crate) fn put_record(buf: &mut [u8], r: DataPathStateTLV) -> usize
     ensures { λ n. ⌜ PutIfRoom (now (buf .entry)) 0 (B.recordBytes r) n (now (buf .exit)) ⌝ }
 {
-    let addresses = put_head(buf, 0, r);
-    let unicast = put_addresses(buf, addresses, r);
-    let extended = put_unicast(buf, unicast, r);
-    put_extended(buf, extended, r)
+    let behind_head = put_head(buf, 0, r);
+    let behind_addresses = put_addresses(buf, behind_head, r);
+    let behind_unicast = put_unicast(buf, behind_addresses, r);
+    put_extended(buf, behind_unicast, r)
 }

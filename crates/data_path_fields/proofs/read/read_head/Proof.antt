@@ -1,5 +1,6 @@
 -- `read_head` meets its contract: each step is the next line of `head`.
 -- Assumes nothing.
+use Rattle.data_path_fields.proofs.OneBit.{has-bit}
 use Rattle.data_path_fields.proofs.read.read_head.Statement.{statement}
 use Rattle.data_path_fields.proofs.read.read_head.Tie as tie
 use Rattle.data_path_fields.specs.Said.{saidChannel, saidCountry}
@@ -13,11 +14,17 @@ u16-at-requires c κs = search needs
 enum-known-flags : tie.Need-enum-known-flags
 enum-known-flags c = search needs
 
+has-requires : tie.Need-has-requires
+has-requires c κs = search needs
+
 country-code-requires : tie.Need-country-code-requires
 country-code-requires c κs = search needs
 
 enum-known-country : tie.Need-enum-known-country
 enum-known-country c = search needs
+
+has-requires-2 : tie.Need-has-requires-2
+has-requires-2 c κs = search needs
 
 channel-map-requires : tie.Need-channel-map-requires
 channel-map-requires c κs = search needs
@@ -27,10 +34,15 @@ enum-known-channel c = search needs
 
 returns : tie.Need-returns
 returns c =
+    let channel = c .before .before .before in
+    let country = channel .before .before .before .before .before in
+    let flags = country .before .before .before .before .before in
     rw (
-      told saidU16 (c .before .before .before .before .before .before .before .before .before .before .before .u16-at .ensures) (c .before .before .before .before .before .before .before .before .before .flags .given .1),
-      told saidCountry (c .before .before .before .before .before .before .before .country-code .ensures) (c .before .before .before .before .before .country .given .1),
-      told saidChannel (c .before .before .before .channel-map .ensures) (c .before .channel .given .1),
+      told saidU16 (flags .u16-at .ensures) (country .before .before .before .flags .given .1),
+      has-bit 8 _ (country .before .has .ensures),
+      told saidCountry (country .country-code .ensures) (channel .before .before .before .country .given .1),
+      has-bit 9 _ (channel .before .has2 .ensures),
+      told saidChannel (channel .channel-map .ensures) (c .before .channel .given .1),
     )
 
 enum-known-why : tie.Need-enum-known-why
@@ -38,10 +50,15 @@ enum-known-why c = search needs
 
 returns-2 : tie.Need-returns-2
 returns-2 c =
+    let channel = c .before .before .before in
+    let country = channel .before .before .before .before .before in
+    let flags = country .before .before .before .before .before in
     rw (
-      told saidU16 (c .before .before .before .before .before .before .before .before .before .before .before .u16-at .ensures) (c .before .before .before .before .before .before .before .before .before .flags .given .1),
-      told saidCountry (c .before .before .before .before .before .before .before .country-code .ensures) (c .before .before .before .before .before .country .given .1),
-      told saidChannel (c .before .before .before .channel-map .ensures) (c .before .why .given .1),
+      told saidU16 (flags .u16-at .ensures) (country .before .before .before .flags .given .1),
+      has-bit 8 _ (country .before .has .ensures),
+      told saidCountry (country .country-code .ensures) (channel .before .before .before .country .given .1),
+      has-bit 9 _ (channel .before .has2 .ensures),
+      told saidChannel (channel .channel-map .ensures) (c .before .why .given .1),
     )
 
 enum-known-why-2 : tie.Need-enum-known-why-2
@@ -49,16 +66,20 @@ enum-known-why-2 c = search needs
 
 returns-3 : tie.Need-returns-3
 returns-3 c =
+    let country = c .before .before .before in
+    let flags = country .before .before .before .before .before in
     rw (
-      told saidU16 (c .before .before .before .before .before .before .before .u16-at .ensures) (c .before .before .before .before .before .flags .given .1),
-      told saidCountry (c .before .before .before .country-code .ensures) (c .before .why2 .given .1),
+      told saidU16 (flags .u16-at .ensures) (country .before .before .before .flags .given .1),
+      has-bit 8 _ (country .before .has .ensures),
+      told saidCountry (country .country-code .ensures) (c .before .why2 .given .1),
     )
 
 enum-known-why-3 : tie.Need-enum-known-why-3
 enum-known-why-3 c = search needs
 
 returns-4 : tie.Need-returns-4
-returns-4 c = rw (told saidU16 (c .before .before .before .u16-at .ensures) (c .before .why3 .given .1))
+returns-4 c =
+    rw (told saidU16 (c .before .before .before .u16-at .ensures) (c .before .why3 .given .1))
 
 pub read-head-spec : {M : Type 1} → statement M
 read-head-spec =
@@ -66,8 +87,10 @@ read-head-spec =
     (tie.spec
     u16-at-requires
     enum-known-flags
+    has-requires
     country-code-requires
     enum-known-country
+    has-requires-2
     channel-map-requires
     enum-known-channel
     returns

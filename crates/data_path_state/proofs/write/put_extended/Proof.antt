@@ -8,11 +8,11 @@ use borrow.Author.Needs.{needs}
 put-u16-requires : tie.Need-put-u16-requires
 put-u16-requires c κs = search needs
 
-put-short-requires : tie.Need-put-short-requires
-put-short-requires c κs = search needs
+put-optional-u16-requires : tie.Need-put-optional-u16-requires
+put-optional-u16-requires c κs = search needs
 
-put-word-requires : tie.Need-put-word-requires
-put-word-requires c κs = search needs
+put-optional-u32-requires : tie.Need-put-optional-u32-requires
+put-optional-u32-requires c κs = search needs
 
 put-stats-requires : tie.Need-put-stats-requires
 put-stats-requires c κs = search needs
@@ -25,10 +25,10 @@ returns c =
     let stats = c .before .before in
     let rlfc = stats .before .before .before .before in
     let trigger = rlfc .before .before .before .before in
-    let flags = trigger .before .before .before .before in
+    let flags = trigger .before .before .before .before .before in
     rw (flags .before .before .if1 .taken)
-    ((λ room. flags .put-u16 .ensures) and-then (λ room. trigger .put-short .ensures)
-    and-then (λ room. rlfc .put-word .ensures) and-then stats .put-stats .ensures)
+    ((λ room. flags .put-u16 .ensures) and-then (λ room. trigger .put-optional-u16 .ensures)
+    and-then (λ room. rlfc .put-optional-u32 .ensures) and-then stats .put-stats .ensures)
 
 returns-2 : tie.Need-returns-2
 returns-2 c = rw (c .if1 .left) λ room. put-empty _ _
@@ -38,8 +38,8 @@ put-extended-spec =
     tie.close
     (tie.spec
     put-u16-requires
-    put-short-requires
-    put-word-requires
+    put-optional-u16-requires
+    put-optional-u32-requires
     put-stats-requires
     same-length
     returns

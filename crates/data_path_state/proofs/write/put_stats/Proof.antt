@@ -7,14 +7,14 @@ use Rattle.wire.specs.Numbers.{littleBytes}
 use borrow.Author.Needs.{needs}
 use mathlib.Core.List.{_++_}
 
-put-word-requires : tie.Need-put-word-requires
-put-word-requires c κs = search needs
+put-optional-u32-requires : tie.Need-put-optional-u32-requires
+put-optional-u32-requires c κs = search needs
 
-put-word-requires-2 : tie.Need-put-word-requires-2
-put-word-requires-2 c κs = search needs
+put-optional-u32-requires-2 : tie.Need-put-optional-u32-requires-2
+put-optional-u32-requires-2 c κs = search needs
 
-put-word-requires-3 : tie.Need-put-word-requires-3
-put-word-requires-3 c κs = search needs
+put-optional-u32-requires-3 : tie.Need-put-optional-u32-requires-3
+put-optional-u32-requires-3 c κs = search needs
 
 same-length : tie.Need-same-length
 same-length c = search needs
@@ -28,10 +28,10 @@ returns c =
     let first = littleBytes 4 (s .stats .«msec_since_activation») in
     let second = littleBytes 4 (s .stats .«aw_seq_counter») in
     run-both (s .present) (first ++ second) (littleBytes 4 (s .stats .«pay_update_coutner»))
-    (run-both (s .present) first second (λ room. msec .put-word .ensures) (λ room. aw .put-word2 .ensures))
-    (λ room. pay .put-word3 .ensures)
+    (run-both (s .present) first second (λ room. msec .put-optional-u32 .ensures) (λ room. aw .put-optional-u322 .ensures))
+    (λ room. pay .put-optional-u323 .ensures)
 
 pub put-stats-spec : {M : Type 1} → statement M
 put-stats-spec =
     tie.close
-    (tie.spec put-word-requires put-word-requires-2 put-word-requires-3 same-length returns)
+    (tie.spec put-optional-u32-requires put-optional-u32-requires-2 put-optional-u32-requires-3 same-length returns)

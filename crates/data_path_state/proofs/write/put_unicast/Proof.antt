@@ -14,8 +14,8 @@ put-u16-requires c κs = search needs
 put-u32-requires : tie.Need-put-u32-requires
 put-u32-requires c κs = search needs
 
-put-word-requires : tie.Need-put-word-requires
-put-word-requires c κs = search needs
+put-optional-u32-requires : tie.Need-put-optional-u32-requires
+put-optional-u32-requires c κs = search needs
 
 same-length : tie.Need-same-length
 same-length c = search needs
@@ -27,7 +27,7 @@ returns c =
     let length = options .before .before .before .before in
     rw (length .before .before .before .before .if1 .taken)
     ((λ room. rw (length .before .unicast-length .ensures) at (length .put-u16 .ensures))
-    and-then (λ room. options .put-u32 .ensures) and-then (λ room. ext .put-word .ensures))
+    and-then (λ room. options .put-u32 .ensures) and-then (λ room. ext .put-optional-u32 .ensures))
 
 returns-2 : tie.Need-returns-2
 returns-2 c = rw (c .if1 .left) λ room. put-empty _ _
@@ -39,7 +39,7 @@ put-unicast-spec =
     unicast-length-requires
     put-u16-requires
     put-u32-requires
-    put-word-requires
+    put-optional-u32-requires
     same-length
     returns
     returns-2)

@@ -18,15 +18,15 @@ read-body-requires c κs = search needs
 enum-known-body : tie.Need-enum-known-body
 enum-known-body c = search needs
 
-whole-requires : tie.Need-whole-requires
-whole-requires c κs = search needs
+record-of-requires : tie.Need-record-of-requires
+record-of-requires c κs = search needs
 
 returns : tie.Need-returns
 returns c =
     rw (
       told saidHead (c .before .before .before .before .before .before .before .before .read-head .ensures) (c .before .before .before .before .before .before .head .given .1),
       told saidBody (c .before .before .before .before .read-body .ensures) (c .before .before .body .given .1),
-      c .whole .ensures,
+      c .record-of .ensures,
     )
 
 enum-known-why : tie.Need-enum-known-why
@@ -53,7 +53,7 @@ read-spec =
     enum-known-head
     read-body-requires
     enum-known-body
-    whole-requires
+    record-of-requires
     returns
     enum-known-why
     returns-2
