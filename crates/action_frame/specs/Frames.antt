@@ -10,9 +10,6 @@ use Rattle.wire.specs.Answer.{asked, require}
 use Rattle.wire.specs.Numbers.{number, littleBytes}
 use Rattle.action_frame.specs.declared.AWDLActionFrame.{AWDLActionFrame}
 
-abbrev pub zeroFrame : AWDLActionFrame
-zeroFrame = record { subtype = 0; «phy_tx_time» = record { 0 = 0 }; «target_tx_time» = record { 0 = 0 } }
-
 -- a byte that has to have a value
 abbrev pub fixedByte : ℕ → Refusal → Reader (Unit {0})
 fixedByte value why = do
@@ -28,13 +25,19 @@ subtype = do
 abbrev pub subtypeBytes : ℕ → List ℕ
 subtypeBytes v = littleBytes 1 v ++ (0 ∷ [])
 
+abbrev pub headerOf : ℕ → ℕ → ℕ → AWDLActionFrame
+headerOf subtype phy target = record { subtype = subtype; «phy_tx_time» = record { 0 = phy }; «target_tx_time» = record { 0 = target } }
+
+abbrev pub zeroFrame : AWDLActionFrame
+zeroFrame = headerOf 0 0 0
+
 -- what stands behind the two fixed bytes
 abbrev pub fields : Reader AWDLActionFrame
 fields = do
   subtype ← subtype
   phy ← number 4
   target ← number 4
-  give (record { subtype = subtype; «phy_tx_time» = record { 0 = phy }; «target_tx_time» = record { 0 = target } })
+  give (headerOf subtype phy target)
 
 abbrev pub header : Reader AWDLActionFrame
 header = do

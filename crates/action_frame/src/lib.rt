@@ -6,7 +6,7 @@ ghost use Rattle.wire.specs.Answer.{answer, placeOf};
 ghost use Rattle.wire.specs.Said.{saidPlace, saidSize};
 ghost use Rattle.wire.specs.Parts.{partAt};
 ghost use Rattle.wire.specs.Writing.{Put, Wrote};
-ghost use Rattle.action_frame.specs.Frames.{fixedByte, fields, header, tailOf, headerBytes, bytesOf};
+ghost use Rattle.action_frame.specs.Frames.{fixedByte, headerOf, fields, header, tailOf, headerBytes, bytesOf};
 ghost use Rattle.action_frame.specs.Stamps.{delta};
 ghost use Rattle.action_frame.specs.Said.{saidFrame, saidDelta};
 use wire::Place;
@@ -43,6 +43,9 @@ const FIRST: u8 = 0x08;
 
 const SECOND: u8 = 0x10;
 
+// What is written behind the subtype.
+const RESERVED: u8 = 0;
+
 impl AWDLActionFrame {
     // Periodic synchronization and master indication. Any other subtype is read and written too.
     pub const PSF: u8 = 0x00;
@@ -55,8 +58,13 @@ impl AWDLActionFrame {
         ensures { λ r. ⌜ saidFrame r ≡ header (now (frame .entry)) 0 ⌝ }
     {
         match fixed_byte(frame, 0, FIRST, Refusal::NotAction) {
-            Place::At(second) => match fixed_byte(frame, second, SECOND, Refusal::NotVersion) {
-                Place::At(next) => fields_at(frame, next),
+            Place::At(behind_first) => match fixed_byte(
+                frame,
+                behind_first,
+                SECOND,
+                Refusal::NotVersion,
+            ) {
+                Place::At(behind_second) => fields_at(frame, behind_second),
                 Place::Refused(why) => ReadFrame::Refused(why),
             },
             Place::Refused(why) => ReadFrame::Refused(why),
@@ -80,8 +88,8 @@ impl AWDLActionFrame {
         let size = AWDLActionFrame::HEADER_SIZE + tail.len();
         match wire::within(buf.len(), Size::Bytes(size)) {
             Size::Bytes(n) => {
-                let at = put_header(buf, self);
-                wire::put_slice(buf, at, tail);
+                let behind_header = put_header(buf, self);
+                wire::put_slice(buf, behind_header, tail);
                 Size::Bytes(n)
             }
             Size::Refused(why) => Size::Refused(why),
@@ -116,23 +124,28 @@ fn fixed_byte(s: &[u8], at: usize, value: u8, why: Refusal) -> Place
     }
 }
 
+fn header_of(subtype: u8, phy: u32, target: u32) -> AWDLActionFrame
+    ensures { λ r. ⌜ r ≡ headerOf subtype phy target ⌝ }
+{
+    AWDLActionFrame {
+        subtype,
+        phy_tx_time: PhyTxTime(phy),
+        target_tx_time: TargetTxTime(target),
+    }
+}
+
 // What stands behind the pair. The subtype is read with the reserved byte, which is then dropped.
 fn fields_at(s: &[u8], at: usize) -> ReadFrame
     ensures { λ r. ⌜ saidFrame r ≡ fields (now (s .entry)) at ⌝ }
 {
     match wire::field_at(s, at, 2) {
-        Place::At(stamps) => {
+        Place::At(behind_subtype) => {
             let subtype = s[at];
-            match wire::u32_at(s, stamps) {
-                ReadU32::Read(phy, behind) => match wire::u32_at(s, behind) {
-                    ReadU32::Read(target, end) => ReadFrame::Read(
-                        AWDLActionFrame {
-                            subtype,
-                            phy_tx_time: PhyTxTime(phy),
-                            target_tx_time: TargetTxTime(target),
-                        },
-                        end,
-                    ),
+            match wire::u32_at(s, behind_subtype) {
+                ReadU32::Read(phy, behind_phy) => match wire::u32_at(s, behind_phy) {
+                    ReadU32::Read(target, behind_target) => {
+                        ReadFrame::Read(header_of(subtype, phy, target), behind_target)
+                    }
                     ReadU32::Refused(why) => ReadFrame::Refused(why),
                 },
                 ReadU32::Refused(why) => ReadFrame::Refused(why),
@@ -149,10 +162,10 @@ fn put_header(buf: &mut [u8], f: AWDLActionFrame) -> usize
 {
     let phy = f.phy_tx_time;
     let target = f.target_tx_time;
-    let second = wire::put_u8(buf, 0, FIRST);
-    let subtype = wire::put_u8(buf, second, SECOND);
-    let reserved = wire::put_u8(buf, subtype, f.subtype);
-    let stamps = wire::put_u8(buf, reserved, 0);
-    let behind = wire::put_u32(buf, stamps, phy.0);
-    wire::put_u32(buf, behind, target.0)
+    let behind_first = wire::put_u8(buf, 0, FIRST);
+    let behind_second = wire::put_u8(buf, behind_first, SECOND);
+    let behind_subtype = wire::put_u8(buf, behind_second, f.subtype);
+    let behind_reserved = wire::put_u8(buf, behind_subtype, RESERVED);
+    let behind_phy = wire::put_u32(buf, behind_reserved, phy.0);
+    wire::put_u32(buf, behind_phy, target.0)
 }

@@ -1,47 +1,18 @@
 -- A later sender can't mislead us: items that we do not read give no record, bytes behind an accepted value are not looked at, and both leave the walk whole.
 -- Assumes nothing.
-use Prim.Native.Nat.{ℕ, _≤_, _<_}
-use mathlib.Core.Path.{_≡_}
-use mathlib.Core.List.{List, _∷_, _++_}
-use lib.ListN.{length, take}
-use Rattle.wire.specs.declared.refusal.Refusal.the-variants.{Short}
-use Rattle.wire.specs.Reading.{read, refused}
-use Rattle.data_path_state.specs.declared.data_path_state_tlv.DataPathStateTLV.{DataPathStateTLV}
-use Rattle.data_path_state.specs.DataPath.{dataPath}
-use Rattle.data_path_state.proofs.Values.{cut-value}
-use Rattle.tlvs.specs.Walk.{whole, walk}
-use Rattle.tlvs.specs.ItemBytes.{typeLengthValue}
-use Rattle.action_frame.specs.Frames.{tailOf}
-use Rattle.tlvs.specs.Sent.{Sent, sentIn, tailWith}
-use Rattle.promises.specs.Later.{Unread, AcceptedValue, insert, grow, WholeFrame, Later, received}
+use Rattle.promises.specs.Later.{insert, grow}
 use Rattle.promises.proofs.LaterFrames.{whole-written, changed, items-after, received-after}
-
--- Take a frame whose header is accepted and whose items are all whole. A later frame comes from it by putting in items that we
--- do not read and by adding bytes to accepted values, any number of times and anywhere, with lengths that are true.
-pub record Demand3 : Type 0 where
-  -- the header and the accepted records of each type that we read stay the same
-  pub same : (before after : List ℕ) → WholeFrame before → Later before after → received after ≡ received before
-  -- an accepted data path value that is cut below its size is short
-  pub cut : (value : List ℕ) {r : DataPathStateTLV} {size k : ℕ} → dataPath value 0 ≡ read r size → k < size
-      → dataPath (take k value) 0 ≡ refused Short
-  -- what `Later` stands for: the frame is the bytes of its header and then those of its items,
-  pub written : (frame : List ℕ) → WholeFrame frame → frame ≡ take 12 frame ++ tailWith (sentIn (tailOf frame))
-  -- an item that we do not read can be put in before the first item, behind the last one, and between any two,
-  pub inserted : (frame : List ℕ) (front back : List Sent) (it : Sent) → sentIn (tailOf frame) ≡ front ++ back → Unread it
-      → Later frame (take 12 frame ++ (tailWith front ++ (typeLengthValue (it .type) (it .value) ++ tailWith back)))
-  -- any accepted value that has room can get more bytes,
-  pub grown : (frame : List ℕ) (front back : List Sent) (it : Sent) (bytes : List ℕ) → sentIn (tailOf frame) ≡ front ++ (it ∷ back)
-      → AcceptedValue it → length (it .value ++ bytes) ≤ 65535
-      → Later frame (take 12 frame ++ (tailWith front ++ (typeLengthValue (it .type) (it .value ++ bytes) ++ tailWith back)))
-  -- and the walk of the later frame gives the changed items, all of them whole
-  pub items : (before after : List ℕ) → WholeFrame before → (later : Later before after)
-      → (sentIn (tailOf after) ≡ later .items) × (walk (tailOf after) .ending ≡ whole)
+use Rattle.wire.proofs.Lawful.{cut-short}
+use Rattle.data_path_state.proofs.Values.{data-path-lawful}
+use Rattle.synchronization_parameters.proofs.Whole.{synchronization-lawful}
+use Rattle.promises.specs.Demand3.{Demand3}
 
 pub demand3 : Demand3
 demand3 =
     record {
       same = received-after;
-      cut = cut-value;
+      synchronization-cut = λ value a size k. cut-short synchronization-lawful value;
+      data-path-cut = λ value a size k. cut-short data-path-lawful value;
       written = whole-written;
       inserted = λ frame front back it e u. changed frame front e (insert it u);
       grown = λ frame front back it bytes e a h. changed frame front e (grow it bytes a h);

@@ -33,7 +33,7 @@ each (b ∷ rest) h (suc i) = each rest (h .1) i
 
 pub whole-before : WholeFrame before
 unfolding stepAt walkFrom
-whole-before = record { bytes = each (tailOf before) (omega arith); head = _; size = 12; accepted = refl; ending = refl }
+whole-before = record { bytes = each (tailOf before) (omega arith); long = omega arith; ending = refl }
 
 pub later-after : Later before after
 unfolding stepAt walkFrom

@@ -1,10 +1,10 @@
 -- A later frame has the header of the frame and the items that its changes made of the frame's, so that the laws of items and of headers give the rest.
 -- Assumes nothing.
-use Prim.Native.Nat.{ℕ}
+use Prim.Native.Nat.{ℕ, _≤_}
 use native.Mathlib.Omega.{arith}
 use mathlib.Core.Path.{_≡_, refl, sym, ap, _∙_}
 use mathlib.Core.List.{List, [], _∷_, _++_, append-assoc}
-use lib.ListN.{length, take, take-append-drop}
+use lib.ListN.{length, take, length-append, take-append-drop}
 use lib.Seq.{length-take-le, take-at, drop-at}
 use Rattle.wire.specs.Reading.{Reader}
 use Rattle.wire.proofs.Lawful.{SameUpTo}
@@ -13,11 +13,10 @@ use Rattle.synchronization_parameters.specs.SynchronizationReader.{synchronizat
 use Rattle.tlvs.specs.Walk.{whole, walk}
 use Rattle.tlvs.specs.ItemBytes.{typeLengthValue}
 use Rattle.action_frame.specs.Frames.{header, tailOf}
-use Rattle.action_frame.proofs.RoundTrip.{header-lawful}
 use Rattle.tlvs.specs.Sent.{AllSendable, Sent, sentIn, tailWith}
 use Rattle.promises.specs.Later.{Change, further, none, more, WholeFrame, Later, records, received}
 use Rattle.promises.proofs.Tails.{spelt, walked-back}
-use Rattle.promises.proofs.Takes.{header-size}
+use Rattle.promises.proofs.Takes.{header-same}
 use Rattle.promises.proofs.Changes.{recordsIn, records-sent, synchronizations-kept, data-paths-kept, changes-fit}
 
 pub whole-written : (frame : List ℕ) → WholeFrame frame → frame ≡ take 12 frame ++ tailWith (sentIn (tailOf frame))
@@ -50,20 +49,19 @@ module _ (before after : List ℕ) (w : WholeFrame before) (later : Later before
   fit : AllSendable (later .items)
   fit = changes-fit (later .changes) (spelt (tailOf before) (w .bytes) (w .ending) .fit)
 
-  twelve : w .size ≡ 12
-  twelve = header-size before (w .accepted)
-
   front-length : length (take 12 before) ≡ 12
-  front-length = let inside = header-lawful .ahead {s = before} {at = 0} (omega arith) (w .accepted) in length-take-le 12 before (omega (arith, twelve))
+  front-length = length-take-le 12 before (w .long)
 
   tail-after : tailOf after ≡ tailWith (later .items)
   tail-after = rw (later .bytes) (drop-at (take 12 before) (tailWith (later .items)) 12 front-length)
 
-  front-same : SameUpTo (w .size) before after
-  front-same = rw (twelve, later .bytes) (sym (take-at (take 12 before) (tailWith (later .items)) 12 front-length))
+  front-same : SameUpTo 12 after before
+  front-same = rw (later .bytes) (take-at (take 12 before) (tailWith (later .items)) 12 front-length)
 
   header-after : header after 0 ≡ header before 0
-  header-after = header-lawful .local {s = before} {t = after} {at = 0} (omega arith) (w .accepted) front-same ∙ sym (w .accepted)
+  header-after =
+      let long : 12 ≤ length after = rw (later .bytes) (simp length-append (omega (arith, front-length))) in
+      header-same after before long (w .long) front-same
 
   pub items-after : (sentIn (tailOf after) ≡ later .items) × (walk (tailOf after) .ending ≡ whole)
   items-after = let f = walked-back (later .items) fit in (rw tail-after (f .sent), rw tail-after (f .ending))

@@ -41,12 +41,11 @@ pub data Changes : List Sent → List Sent → Type 0 where
   none : {items : List Sent} → Changes items items
   more : {items changed last : List Sent} → Change items changed → Changes changed last → Changes items last
 
--- a frame whose header is accepted and whose items are all whole; its tail is of bytes, as every slice of the code is
+-- A frame whose items are all whole: 12 bytes or more, and a tail that the walk takes to its end. Its header may be one that is
+-- refused, with 2 or 3. Its tail is of bytes, as every slice of the code is.
 pub record WholeFrame (frame : List ℕ) : Type 0 where
   pub bytes : (i : ℕ) → getD (tailOf frame) i 0 < 256
-  pub head : AWDLActionFrame
-  pub size : ℕ
-  pub accepted : header frame 0 ≡ read head size
+  pub long : 12 ≤ length frame
   pub ending : walk (tailOf frame) .ending ≡ whole
 
 -- the same 12 bytes of header, and behind them the frame's items with changes

@@ -13,14 +13,14 @@ use native.Mathlib.Omega.{arith}
 -- where its place was given, the field of the subtype stands within
 pair : (c : tie.After-known-told) →
     let a = c .before .before .before .before .before .args in
-    PlacedField 2 (a .s .now) (a .at) (c .before .stamps .given .0 .0)
-pair c = placed _ _ _ (ap saidPlace (sym (c .before .stamps .given .1)) ∙ c .before .before .before .field-at .ensures)
+    PlacedField 2 (a .s .now) (a .at) (c .before .behind-subtype .given .0 .0)
+pair c = placed _ _ _ (ap saidPlace (sym (c .before .behind-subtype .given .1)) ∙ c .before .before .before .field-at .ensures)
 
 field-at-requires : tie.Need-field-at-requires
 field-at-requires c κs = search needs
 
-enum-known-stamps : tie.Need-enum-known-stamps
-enum-known-stamps c = search needs
+enum-known-behind-subtype : tie.Need-enum-known-behind-subtype
+enum-known-behind-subtype c = search needs
 
 shared-slice-read-subtype : tie.Need-shared-slice-read-subtype
 shared-slice-read-subtype c = omega (arith, pair (c .before))
@@ -37,6 +37,9 @@ u32-at-requires-2 c κs = search needs
 enum-known-target : tie.Need-enum-known-target
 enum-known-target c = search needs
 
+header-of-requires : tie.Need-header-of-requires
+header-of-requires c κs = search needs
+
 enum-known-why : tie.Need-enum-known-why
 enum-known-why c = search needs
 
@@ -47,7 +50,7 @@ enum-known-why-3 : tie.Need-enum-known-why-3
 enum-known-why-3 c = search needs
 
 returns : tie.Need-returns
-returns c = rw (begins (pair (c .before .before .before .before .before .before .before .before .before)), sym (c .before .before .before .before .before .before .before .u32-at .ensures) ∙ ap saidU32 (c .before .before .before .before .before .phy .given .1), sym (c .before .before .before .u32-at2 .ensures) ∙ ap saidU32 (c .before .target .given .1))
+returns c = rw (c .header-of .ensures, begins (pair (c .before .before .before .before .before .before .before .before .before .before)), sym (c .before .before .before .before .before .before .before .before .u32-at .ensures) ∙ ap saidU32 (c .before .before .before .before .before .before .phy .given .1), sym (c .before .before .before .before .u32-at2 .ensures) ∙ ap saidU32 (c .before .before .target .given .1))
 
 returns-2 : tie.Need-returns-2
 returns-2 c = rw (begins (pair (c .before .before .before .before .before .before .before .before .before)), sym (c .before .before .before .before .before .before .before .u32-at .ensures) ∙ ap saidU32 (c .before .before .before .before .before .phy .given .1), sym (c .before .before .before .u32-at2 .ensures) ∙ ap saidU32 (c .before .why .given .1))
@@ -65,12 +68,13 @@ fields-at-spec =
     tie.close
     (tie.spec
     field-at-requires
-    enum-known-stamps
+    enum-known-behind-subtype
     shared-slice-read-subtype
     u32-at-requires
     enum-known-phy
     u32-at-requires-2
     enum-known-target
+    header-of-requires
     enum-known-why
     enum-known-why-2
     enum-known-why-3

@@ -13,14 +13,14 @@ use mathlib.Core.Path.{sym, ap, _∙_}
 fixed-byte-requires : tie.Need-fixed-byte-requires
 fixed-byte-requires c κs = search needs
 
-enum-known-second : tie.Need-enum-known-second
-enum-known-second c = search needs
+enum-known-behind-first : tie.Need-enum-known-behind-first
+enum-known-behind-first c = search needs
 
 fixed-byte-requires-2 : tie.Need-fixed-byte-requires-2
 fixed-byte-requires-2 c κs = search needs
 
-enum-known-next : tie.Need-enum-known-next
-enum-known-next c = search needs
+enum-known-behind-second : tie.Need-enum-known-behind-second
+enum-known-behind-second c = search needs
 
 fields-at-requires : tie.Need-fields-at-requires
 fields-at-requires c κs = search needs
@@ -33,14 +33,14 @@ enum-known-why-2 c = search needs
 
 returns : tie.Need-returns
 returns c =
-    let first = passed (fixedByte 0x08 NotAction (c .before .before .before .before .before .before .before .before .before .before .args .frame .now) 0) (ap saidPlace (sym (c .before .before .before .before .before .before .second .given .1)) ∙ c .before .before .before .before .before .before .before .before .fixed-byte .ensures) in
-    let second = passed (fixedByte 0x10 NotVersion (c .before .before .before .before .before .before .before .before .before .before .args .frame .now) (c .before .before .before .before .before .before .second .given .0 .0)) (ap saidPlace (sym (c .before .before .next .given .1)) ∙ c .before .before .before .before .fixed-byte2 .ensures) in
+    let first = passed (fixedByte 0x08 NotAction (c .before .before .before .before .before .before .before .before .before .before .args .frame .now) 0) (ap saidPlace (sym (c .before .before .before .before .before .before .behind-first .given .1)) ∙ c .before .before .before .before .before .before .before .before .fixed-byte .ensures) in
+    let second = passed (fixedByte 0x10 NotVersion (c .before .before .before .before .before .before .before .before .before .before .args .frame .now) (c .before .before .before .before .before .before .behind-first .given .0 .0)) (ap saidPlace (sym (c .before .before .behind-second .given .1)) ∙ c .before .before .before .before .fixed-byte2 .ensures) in
     rw (first, second) (c .fields-at .ensures)
 
 returns-2 : tie.Need-returns-2
 returns-2 c =
-    let first = passed (fixedByte 0x08 NotAction (c .before .before .before .before .before .before .before .before .before .args .frame .now) 0) (ap saidPlace (sym (c .before .before .before .before .before .second .given .1)) ∙ c .before .before .before .before .before .before .before .fixed-byte .ensures) in
-    let second = unplaced (fixedByte 0x10 NotVersion (c .before .before .before .before .before .before .before .before .before .args .frame .now) (c .before .before .before .before .before .second .given .0 .0)) (ap saidPlace (sym (c .before .why .given .1)) ∙ c .before .before .before .fixed-byte2 .ensures) in
+    let first = passed (fixedByte 0x08 NotAction (c .before .before .before .before .before .before .before .before .before .args .frame .now) 0) (ap saidPlace (sym (c .before .before .before .before .before .behind-first .given .1)) ∙ c .before .before .before .before .before .before .before .fixed-byte .ensures) in
+    let second = unplaced (fixedByte 0x10 NotVersion (c .before .before .before .before .before .before .before .before .before .args .frame .now) (c .before .before .before .before .before .behind-first .given .0 .0)) (ap saidPlace (sym (c .before .why .given .1)) ∙ c .before .before .before .fixed-byte2 .ensures) in
     rw (first, second)
 
 returns-3 : tie.Need-returns-3
@@ -51,9 +51,9 @@ read-spec =
     tie.close
     (tie.spec
     fixed-byte-requires
-    enum-known-second
+    enum-known-behind-first
     fixed-byte-requires-2
-    enum-known-next
+    enum-known-behind-second
     fields-at-requires
     enum-known-why
     enum-known-why-2

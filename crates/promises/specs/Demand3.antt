@@ -1,0 +1,39 @@
+-- Demand 3: a later sender cannot mislead us.
+use Prim.Native.Nat.{ℕ, _≤_, _<_}
+use mathlib.Core.Path.{_≡_}
+use mathlib.Core.List.{List, _∷_, _++_}
+use lib.ListN.{length, take}
+use Rattle.wire.specs.declared.refusal.Refusal.the-variants.{Short}
+use Rattle.wire.specs.Reading.{Reader, read, refused}
+use Rattle.data_path_state.specs.DataPath.{dataPath}
+use Rattle.tlvs.specs.Walk.{whole, walk}
+use Rattle.tlvs.specs.ItemBytes.{typeLengthValue}
+use Rattle.action_frame.specs.Frames.{tailOf}
+use Rattle.tlvs.specs.Sent.{Sent, sentIn, tailWith}
+use Rattle.promises.specs.Later.{Unread, AcceptedValue, WholeFrame, Later, received}
+use Rattle.synchronization_parameters.specs.SynchronizationReader.{synchronization}
+
+-- what was read of a value and is cut below its size is short
+abbrev pub CutIsShort : {A : Type 0} → Reader A → Type 0
+CutIsShort {A} reader = (value : List ℕ) (a : A) (size k : ℕ) → reader value 0 ≡ read a size → k < size → reader (take k value) 0 ≡ refused Short
+
+-- Take a frame whose items are all whole. A later frame comes from it by putting in items that we do not read and by adding bytes
+-- to accepted values, any number of times and anywhere, with lengths that are true.
+pub record Demand3 : Type 0 where
+  -- the header, accepted or refused, and the accepted records of each type that we read stay the same
+  pub same : (before after : List ℕ) → WholeFrame before → Later before after → received after ≡ received before
+  -- an accepted value of either type that is cut below its size is short
+  pub synchronization-cut : CutIsShort synchronization
+  pub data-path-cut : CutIsShort dataPath
+  -- what `Later` stands for: the frame is the bytes of its header and then those of its items,
+  pub written : (frame : List ℕ) → WholeFrame frame → frame ≡ take 12 frame ++ tailWith (sentIn (tailOf frame))
+  -- an item that we do not read can be put in before the first item, behind the last one, and between any two,
+  pub inserted : (frame : List ℕ) (front back : List Sent) (it : Sent) → sentIn (tailOf frame) ≡ front ++ back → Unread it
+      → Later frame (take 12 frame ++ (tailWith front ++ (typeLengthValue (it .type) (it .value) ++ tailWith back)))
+  -- any accepted value that has room can get more bytes,
+  pub grown : (frame : List ℕ) (front back : List Sent) (it : Sent) (bytes : List ℕ) → sentIn (tailOf frame) ≡ front ++ (it ∷ back)
+      → AcceptedValue it → length (it .value ++ bytes) ≤ 65535
+      → Later frame (take 12 frame ++ (tailWith front ++ (typeLengthValue (it .type) (it .value ++ bytes) ++ tailWith back)))
+  -- and the walk of the later frame gives the changed items, all of them whole
+  pub items : (before after : List ℕ) → WholeFrame before → (later : Later before after)
+      → (sentIn (tailOf after) ≡ later .items) × (walk (tailOf after) .ending ≡ whole)
