@@ -1,50 +1,63 @@
--- A record that was read, written again, gives the bytes that `rewritten` says: the two readers go side by side, line by line.
+-- A record that was read of bytes, written again, gives the bytes that `rewritten` says: the two readers go side by side, field by field.
 -- Assumes nothing.
-use Prim.Native.Nat.{ℕ, _%_, _^_}
-use mathlib.Core.Path.{_≡_, refl, sym, ap, _∙_}
-use mathlib.Core.Bool.{Bool, true, false, cond}
-use mathlib.Core.List.{List, [], _++_, append-assoc}
+use Prim.Native.Nat.{ℕ, _+_, _*_, _/_, _%_, _^_, _<_}
+use native.Mathlib.Omega.{arith}
+use mathlib.Core.Path.{_≡_, refl, ap, subst}
+use mathlib.Core.Bool.{Bool, true, false, cond, _||_}
+use mathlib.Core.List.{List, [], _∷_, _++_, append-assoc}
 use lib.Dec.{eqb}
+use lib.ListN.{getD, take}
+use borrow.Author.Tests.{eqb-true}
 use Rattle.wire.specs.declared.refusal.Refusal.the-variants.{UnicastLength}
-use Rattle.wire.specs.Reading.{Reader, field, give, _>>=_}
-use Rattle.wire.specs.Numbers.{number, littleBytes, bit}
-use Rattle.wire.specs.Addresses.{address}
+use Rattle.wire.specs.Reading.{Reader, read, field, give, refuse, when, _>>=_}
+use Rattle.wire.specs.Answer.{require, asked}
+use Rattle.wire.specs.Numbers.{little, littleBytes, number, bit, bits}
 use Rattle.wire.specs.Words.{wordBy}
-use Rattle.wire.proofs.Again.{Again, again-give, again-refuse, again-bind, again-step, again-group, again-when, again-cond}
+use Rattle.wire.proofs.Lawful.{never}
+use Rattle.wire.proofs.Octets.{Octets, OctetField, by-place, number-field, gives-field}
+use Rattle.wire.proofs.Again.{Again, again-give, again-bind, again-step, again-group, again-when, again-optional, again-made, number-again, address-again, again-number, again-joined, again-end}
 use Rattle.data_path_fields.specs.declared.misc.DataPathChannel.{DataPathChannel}
-use Rattle.data_path_fields.specs.declared.read.Head.{Head}
-use Rattle.data_path_fields.specs.declared.read.Addresses.{Addresses}
-use Rattle.data_path_fields.specs.declared.read.Body.{Body}
 use Rattle.data_path_fields.specs.declared.read.Unicast.{Unicast}
 use Rattle.data_path_fields.specs.declared.read.Extended.{Extended}
-use Rattle.data_path_fields.specs.Words.{extendedKept, channelOf, wordOf}
-use Rattle.data_path_fields.specs.Fields.{head, addresses, body, country, channelWord, infra, oneAddress, oneWord, optionsAnd, unicast, triggerId, stats, extendedOf, extended}
+use Rattle.data_path_fields.specs.Words.{extendedKept, optionsKept, channelOf, wordOf}
+use Rattle.data_path_fields.specs.Fields.{noCountry, country, noChannel, channelWord, noInfra, infra, noAddress, oneAddress, addresses, oneWord, optionsAnd}
+use Rattle.data_path_fields.specs.Fields.{noUnicast, unicast, triggerId, stats, noExtended, extended}
+use Rattle.data_path_state.specs.declared.data_path_state_tlv.DataPathStateTLV.{DataPathStateTLV}
 use Rattle.data_path_state.specs.DataPath.{dataPath}
 use Rattle.data_path_state.specs.Bytes.{countryBytes, channelBytes, infraBytes, oneAddressBytes, wordBytes, triggerIdBytes, statsBytes, recordBytes}
-use Rattle.data_path_state.specs.Rewritten.{countryAgain, channelAgain, infraAgain, addressAgain, wordAgain, oneAgain, twoAgain, unicastAgain, statsAgain, announcedAgain, extendedAgain, Front, headAgain, addressesAgain, bodyAgain, rewritten}
+use Rattle.data_path_state.specs.Rewritten.{countryAgain, channelByte, channelAgain, unicastAgain, extendedAgain, rewritten}
 
-country-again : Again country countryAgain countryBytes
-country-again = again-bind (field 3) λ letters. again-give refl
+low-byte : (n low : ℕ) → n ≡ low → low < 256 → littleBytes 2 n ≡ low ∷ 0 ∷ []
+low-byte n low e h =
+    let first : n % 256 ≡ low = omega arith in
+    let second : n / 256 % 256 ≡ 0 = omega arith in
+    rw (first, second)
 
-word-of : (w : ℕ) → wordOf (channelOf w) ≡ cond (bit 0 w) (w % 2 ^ 3) (w % 2 ^ 8)
-word-of w = go (bit 0 w)
+-- the word of a channel is the low byte of the word that it was read of, or the low three bits of that byte
+channel-word : (low high : ℕ) → low < 256 → littleBytes 2 (wordOf (channelOf (low + 256 * high))) ≡ channelByte low ∷ 0 ∷ []
+channel-word low high h =
+    let odd : bits 0 1 (low + 256 * high) ≡ bits 0 1 low = omega arith in
+    rw odd (go (bit 0 low))
   where
-    go : (b : Bool) → wordOf (cond b (DataPathChannel.ChannelMap (record { 0 = w % 2 ^ 3 })) (DataPathChannel.SingleChannel (w % 2 ^ 8)))
-        ≡ cond b (w % 2 ^ 3) (w % 2 ^ 8)
-    go true = refl
-    go false = refl
+    go : (b : Bool)
+        → littleBytes 2 (wordOf (cond b (DataPathChannel.ChannelMap (record { 0 = (low + 256 * high) % 2 ^ 3 })) (DataPathChannel.SingleChannel ((low + 256 * high) % 2 ^ 8))))
+        ≡ cond b (low % 2 ^ 3) low ∷ 0 ∷ []
+    go true = low-byte ((low + 256 * high) % 2 ^ 3) (low % 2 ^ 3) (omega arith) (omega arith)
+    go false = low-byte ((low + 256 * high) % 2 ^ 8) low (omega arith) h
 
-channel-again : Again channelWord channelAgain channelBytes
-channel-again = again-bind (number 2) λ word. again-give (rw (word-of word))
+channel-bytes : (word : List ℕ) → OctetField 2 word → littleBytes 2 (wordOf (channelOf (little word))) ≡ channelByte (getD word 0 0) ∷ 0 ∷ []
+channel-bytes word p =
+    subst (λ (b : List ℕ). littleBytes 2 (wordOf (channelOf (little b))) ≡ channelByte (getD b 0 0) ∷ 0 ∷ []) (by-place 2 word (p .size))
+    (channel-word (getD word 0 0) (little (getD word 1 0 ∷ [])) (p .octets .small 0))
 
-infra-again : Again infra infraAgain infraBytes
-infra-again = again-bind address λ bssid. again-bind (number 2) λ channel. again-give refl
+-- the dropped bit of the extended word announces nothing
+record Announces (w : ℕ) : Type 0 where
+  trigger : bits 0 1 (wordBy extendedKept w) ≡ bits 0 1 w
+  rlfc : bits 2 1 (wordBy extendedKept w) ≡ bits 2 1 w
+  stats : bits 5 1 (wordBy extendedKept w) ≡ bits 5 1 w
 
-address-again : Again oneAddress addressAgain oneAddressBytes
-address-again = again-bind address λ a. again-give refl
-
-word-again : Again oneWord (wordAgain 4) wordBytes
-word-again = again-bind (number 4) λ w. again-give refl
+announces : (w : ℕ) → Announces w
+announces w = record { trigger = omega arith; rlfc = omega arith; stats = omega arith }
 
 abbrev unicastOf : Unicast → List ℕ
 unicastOf u =
@@ -52,73 +65,101 @@ unicastOf u =
     (littleBytes 2 (cond (u .ext .present) 8 4) ++ littleBytes 4 (u .options .options .0) ++ wordBytes (u .ext))
     []
 
-one-again : Again (optionsAnd false) oneAgain unicastOf
-one-again = again-bind (number 4) λ options. again-give refl
-
-two-again : Again (optionsAnd true) twoAgain unicastOf
-two-again = again-bind (number 4) λ options. again-group (number 4) _ _ (again-bind (number 4) λ w. again-give refl)
-
-unicast-again : Again unicast unicastAgain unicastOf
-unicast-again =
-    again-bind (number 2) λ length.
-    again-cond (eqb length 4) one-again (again-cond (eqb length 8) two-again (again-refuse UnicastLength))
-
-trigger-again : Again triggerId (wordAgain 2) triggerIdBytes
-trigger-again = again-bind (number 2) λ id. again-give refl
-
-stats-again : Again stats statsAgain statsBytes
-stats-again = again-bind (number 4) λ msec. again-bind (number 4) λ aw. again-bind (number 4) λ pay. again-give refl
-
 abbrev extendedOut : Extended → List ℕ
 extendedOut x =
     cond (x .flags .present)
     (littleBytes 2 (x .flags .flags .0) ++ triggerIdBytes (x .trigger) ++ wordBytes (x .rlfc) ++ statsBytes (x .stats))
     []
 
--- three readers in a row, each beside its own
-three : {A B C D X Y Z W : Type 0} {m : Reader A} {n : Reader B} {o : Reader C} {c : Reader X} {d : Reader Y} {e : Reader Z}
-    {f : A → X} {g : B → Y} {h : C → Z} (k : A → B → C → D) (l : X → Y → Z → W) {out : D → W}
-    → Again m c f → Again n d g → Again o e h → ((x : A) (y : B) (z : C) → out (k x y z) ≡ l (f x) (g y) (h z))
-    → Again (m >>= λ x. n >>= λ y. o >>= λ z. give (k x y z)) (c >>= λ x. d >>= λ y. e >>= λ z. give (l x y z)) out
-three k l p q r same = again-step _ p λ x. again-step _ q λ y. again-step _ r λ z. again-give (same x y z)
+abbrev keptOptions : List ℕ → List ℕ
+keptOptions options = littleBytes 4 (wordBy optionsKept (little options))
 
-announced-again : (word : ℕ) → Again (extendedOf word) (announcedAgain word) extendedOut
-announced-again word =
-    three _ _ (again-when (bit 0 word) trigger-again refl) (again-when (bit 2 word) word-again refl)
-    (again-when (bit 5 word) stats-again refl) λ trigger rlfc stats. refl
+-- what follows the length
+abbrev optionsAgain : List ℕ → Bool → Reader (List ℕ)
+optionsAgain length second = do
+  options ← field 4
+  ext ← when second [] (field 4)
+  give (length ++ keptOptions options ++ ext)
 
-extended-again : Again extended extendedAgain extendedOut
-extended-again = again-bind (number 2) λ word. announced-again (wordBy extendedKept word)
+-- the addresses are written together
+laid-out : (flags country channel bssid infra awdl unicast extended : List ℕ) {bytes : List ℕ} → flags ≡ bytes
+    → flags ++ country ++ channel ++ (bssid ++ infra ++ awdl) ++ unicast ++ extended ≡ bytes ++ country ++ channel ++ bssid ++ infra ++ awdl ++ unicast ++ extended
+laid-out flags country channel bssid infra awdl unicast extended e = rw (← e) (simp append-assoc)
 
-abbrev front : Head → Front
-front h = record { flags = h .flags; bytes = littleBytes 2 (h .flags) ++ countryBytes (h .country) ++ channelBytes (h .channel) }
+module _ {s : List ℕ} (octets : Octets s) where
+  country-again : Again s country countryAgain countryBytes
+  country-again =
+      again-bind (gives-field octets 3) λ letters p.
+      again-give (ap (λ (b : List ℕ). take 2 b ++ (0 ∷ [])) (by-place 3 letters (p .size)))
 
-head-again : Again head headAgain front
-head-again =
-    again-bind (number 2) λ flags.
-    again-step _ (again-when (bit 8 flags) country-again refl) λ country.
-    again-step _ (again-when (bit 9 flags) channel-again refl) λ channel. again-give refl
+  channel-again : Again s channelWord channelAgain channelBytes
+  channel-again = again-number octets 2 _ λ word p. again-give (channel-bytes word p)
 
-abbrev addressesOut : Addresses → List ℕ
-addressesOut a = infraBytes (a .bssid) ++ oneAddressBytes (a .infra) ++ oneAddressBytes (a .awdl)
+  infra-again : Again s infra (field 8) infraBytes
+  infra-again =
+      again-end (again-joined give 6 2 (address-again octets) λ bssid.
+      again-step _ (number-again octets 2) λ channel. again-give refl)
 
-addresses-again : (flags : ℕ) → Again (addresses flags) (addressesAgain flags) addressesOut
-addresses-again flags =
-    three _ _ (again-when (bit 0 flags) infra-again refl) (again-when (bit 1 flags) address-again refl)
-    (again-when (bit 2 flags) address-again refl) λ bssid infra awdl. refl
+  one-address-again : Again s oneAddress (field 6) oneAddressBytes
+  one-address-again = again-made _ (address-again octets) λ a. refl
 
-abbrev bodyOut : Body → List ℕ
-bodyOut b = addressesOut (b .addresses) ++ unicastOf (b .unicast) ++ extendedOut (b .extended)
+  one-word-again : Again s oneWord (field 4) wordBytes
+  one-word-again = again-made _ (number-again octets 4) λ w. refl
 
-body-again : (flags : ℕ) → Again (body flags) (bodyAgain flags) bodyOut
-body-again flags =
-    three _ _ (addresses-again flags) (again-when (bit 12 flags) unicast-again refl)
-    (again-when (bit 15 flags) extended-again refl) λ addresses unicast extended. refl
+  trigger-again : Again s triggerId (field 2) triggerIdBytes
+  trigger-again = again-made _ (number-again octets 2) λ id. refl
 
-pub written-again : Again dataPath rewritten recordBytes
-unfolding recordBytes
-written-again =
-    again-step _ head-again λ h. again-step _ (body-again (h .flags)) λ b.
-    again-give (append-assoc (front h .bytes ++ addressesOut (b .addresses)) (unicastOf (b .unicast)) (extendedOut (b .extended))
-    ∙ append-assoc (front h .bytes) (addressesOut (b .addresses)) (unicastOf (b .unicast) ++ extendedOut (b .extended))
-    ∙ ap (λ (z : List ℕ). front h .bytes ++ z) (sym (append-assoc (addressesOut (b .addresses)) (unicastOf (b .unicast)) (extendedOut (b .extended)))))
+  stats-again : Again s stats (field 12) statsBytes
+  stats-again =
+      again-end (again-joined give 4 8 (number-again octets 4) λ msec.
+      again-joined _ 4 4 (number-again octets 4) λ aw.
+      again-step _ (number-again octets 4) λ pay. again-give refl)
+
+  one-again : (length : List ℕ) → littleBytes 2 4 ≡ length → Again s (optionsAnd false) (optionsAgain length false) unicastOf
+  one-again length e = again-number octets 4 _ λ options p. again-give (ap (λ (b : List ℕ). b ++ keptOptions options ++ []) e)
+
+  two-again : (length : List ℕ) → littleBytes 2 8 ≡ length → Again s (optionsAnd true) (optionsAgain length true) unicastOf
+  two-again length e =
+      again-number octets 4 _ λ options p.
+      again-group (number 4) _ _ (again-step _ (number-again octets 4) λ ext.
+      again-give (ap (λ (b : List ℕ). b ++ keptOptions options ++ littleBytes 4 ext) e))
+
+  lengths-again : (n : ℕ) (length : List ℕ) → littleBytes 2 n ≡ length → (four eight : Bool) → eqb n 4 ≡ four → eqb n 8 ≡ eight
+      → Again s (cond four (optionsAnd false) (cond eight (optionsAnd true) (refuse UnicastLength)))
+      (asked (require (four || eight) UnicastLength) >>= λ allowed. optionsAgain length eight) unicastOf
+  lengths-again n length e true true p q = let four = eqb-true n 4 p in let eight = eqb-true n 8 q in absurd (omega arith)
+  lengths-again n length e true false p q = one-again length (rw (eqb-true n 4 p) at e)
+  lengths-again n length e false true p q = two-again length (rw (eqb-true n 8 q) at e)
+  lengths-again n length e false false p q = record { of = λ r. absurd (never r) }
+
+  unicast-again : Again s unicast unicastAgain unicastOf
+  unicast-again = again-number octets 2 _ λ length p.
+      lengths-again (little length) length (number-field p) (eqb (little length) 4) (eqb (little length) 8) refl refl
+
+  extended-again : Again s extended extendedAgain extendedOut
+  extended-again =
+      again-number octets 2 _ λ word p.
+      let a = announces (little word) in
+      rw (a .trigger, a .rlfc, a .stats)
+      (again-step _ (again-when (bit 0 (little word)) trigger-again refl) λ trigger.
+      again-step _ (again-when (bit 2 (little word)) one-word-again refl) λ rlfc.
+      again-step _ (again-when (bit 5 (little word)) stats-again refl) λ stats. again-give refl)
+
+  written : Again s dataPath rewritten recordBytes
+  unfolding recordBytes
+  written =
+      again-group (number 2) _ _ (again-number octets 2 _ λ flags p.
+      let w : ℕ = little flags in
+      again-optional (bit 8 w) noCountry _ _ _ country-again refl λ country.
+      again-optional (bit 9 w) noChannel _ _ _ channel-again refl λ channel.
+      again-group (addresses w) _ _
+      (again-optional (bit 0 w) noInfra _ _ _ infra-again refl λ bssid.
+      again-optional (bit 1 w) noAddress _ _ _ one-address-again refl λ infra.
+      again-optional (bit 2 w) noAddress _ _ _ one-address-again refl λ awdl.
+      again-optional (bit 12 w) noUnicast _ _ _ unicast-again refl λ unicast.
+      again-optional (bit 15 w) noExtended _ _ _ extended-again refl λ extended.
+      again-give (laid-out _ _ _ _ _ _ _ _ (number-field p))))
+
+pub written-again : (s : List ℕ) → ((i : ℕ) → getD s i 0 < 256) → (at : ℕ) {next : ℕ} {r : DataPathStateTLV} → dataPath s at ≡ read r next
+    → rewritten s at ≡ read (recordBytes r) next
+written-again s small at e = written {s = s} (record { small = small }) .of {at = at} e

@@ -1,9 +1,11 @@
 pub mod Bits
+pub mod Masks
 pub mod Right
 pub mod Sizes
 pub mod RoundTrip
 pub mod Values
 pub mod ReadConsistent
+pub mod FromBytes
 pub mod Facts
 pub mod Announced
 pub mod Optional

@@ -4,11 +4,11 @@ use Prim.Native.Nat.{ℕ, _%_, _^_}
 use native.Mathlib.Omega.{arith}
 use mathlib.Core.Path.{_≡_, refl}
 use mathlib.Core.Bool.{Bool, true, false, not, cond, _&&_, _||_}
-use mathlib.Core.List.{[], _∷_}
+use mathlib.Core.List.{List, [], _∷_}
 use lib.Dec.{eqb}
 use borrow.Author.Tests.{eq-eqb, eqb-true, eqb-false, le-leb}
 use Rattle.wire.specs.declared.refusal.Refusal.the-variants.{UnicastLength}
-use Rattle.wire.specs.Reading.{field, when}
+use Rattle.wire.specs.Reading.{read, field, when}
 use Rattle.wire.specs.Numbers.{number, bit, bits}
 use Rattle.wire.specs.Addresses.{address}
 use Rattle.wire.specs.Words.{wordBy}
@@ -26,6 +26,7 @@ use Rattle.data_path_fields.specs.declared.read.Body.{Body}
 use Rattle.data_path_fields.specs.Words.{extendedKept, optionsKept, channelOf}
 use Rattle.data_path_fields.specs.Fields.{noCountry, noChannel, head, noInfra, noAddress, oneAddress, addresses, noWord, oneWord, optionsAnd, noUnicast, unicast}
 use Rattle.data_path_fields.specs.Fields.{noTriggerId, noStats, stats, noExtended, extendedOf, extended, body}
+use Rattle.data_path_state.specs.declared.data_path_state_tlv.DataPathStateTLV.{DataPathStateTLV}
 use Rattle.data_path_state.specs.DataPath.{recordOf, dataPath}
 use Rattle.data_path_state.specs.Consistent.{isZeroAddress, isZeroChannel, isZeroStats, channelRight, consistent}
 
@@ -50,7 +51,7 @@ record HeadRight (h : Head) : Type 0 where
   channel : Is (bit 9 (h .flags)) (h .channel .present) (isZeroChannel (h .channel .channel))
   right : channelRight (h .channel .channel) ≡ true
 
-head-gives : Gives head HeadRight
+head-gives : {s : List ℕ} → Gives s head HeadRight
 head-gives =
     gives-bind (gives-any (number 2)) λ flags _.
     gives-bind {Q = λ c. Is (bit 8 flags) (c .present) (eqb (c .first) 0 && eqb (c .second) 0)}
@@ -66,14 +67,14 @@ head-gives =
 abbrev AddressIs : Bool → OptionalAddress → Type 0
 AddressIs b a = Is b (a .present) (isZeroAddress (a .address))
 
-one-address-gives : (b : Bool) → Gives (when b noAddress oneAddress) (AddressIs b)
+one-address-gives : {s : List ℕ} (b : Bool) → Gives s (when b noAddress oneAddress) (AddressIs b)
 one-address-gives b =
     gives-when b noAddress (λ e. gives-bind (gives-any address) λ a _. gives-give _ (e, refl)) (λ e. (e, refl))
 
 abbrev WordIs : Bool → OptionalWord → Type 0
 WordIs b w = Is b (w .present) (eqb (w .word) 0)
 
-one-word-gives : (b : Bool) → Gives (when b noWord oneWord) (WordIs b)
+one-word-gives : {s : List ℕ} (b : Bool) → Gives s (when b noWord oneWord) (WordIs b)
 one-word-gives b =
     gives-when b noWord (λ e. gives-bind (gives-any (number 4)) λ w _. gives-give _ (e, refl)) (λ e. (e, refl))
 
@@ -82,7 +83,7 @@ record AddressesRight (flags : ℕ) (a : Addresses) : Type 0 where
   infra : AddressIs (bit 1 flags) (a .infra)
   awdl : AddressIs (bit 2 flags) (a .awdl)
 
-addresses-gives : (flags : ℕ) → Gives (addresses flags) (AddressesRight flags)
+addresses-gives : {s : List ℕ} (flags : ℕ) → Gives s (addresses flags) (AddressesRight flags)
 addresses-gives flags =
     gives-bind {Q = λ i. Is (bit 0 flags) (i .present) (isZeroAddress (i .bssid) && eqb (i .channel) 0)}
     (gives-when (bit 0 flags) noInfra
@@ -102,7 +103,7 @@ or-true : (b : Bool) → (b || true) ≡ true
 or-true true = refl
 or-true false = refl
 
-options-gives : (b second : Bool) → b ≡ true → Gives (optionsAnd second) (UnicastRight b)
+options-gives : {s : List ℕ} (b second : Bool) → b ≡ true → Gives s (optionsAnd second) (UnicastRight b)
 options-gives b second e =
     gives-bind (gives-any (number 4)) λ word _.
     gives-bind (one-word-gives second) λ ext x.
@@ -113,7 +114,7 @@ options-gives b second e =
       only = or-true (not (ext .present));
     })
 
-unicast-gives : (b : Bool) → Gives (when b noUnicast unicast) (UnicastRight b)
+unicast-gives : {s : List ℕ} (b : Bool) → Gives s (when b noUnicast unicast) (UnicastRight b)
 unicast-gives b =
     gives-when b noUnicast
     (λ e. gives-bind (gives-any (number 2)) λ length _.
@@ -130,7 +131,7 @@ record ExtendedRight (b : Bool) (x : Extended) : Type 0 where
   rlfc-only : (not (x .rlfc .present) || x .flags .present) ≡ true
   stats-only : (not (x .stats .present) || x .flags .present) ≡ true
 
-extended-of-gives : (b : Bool) (word : ℕ) → b ≡ true → Gives (extendedOf (wordBy extendedKept word)) (ExtendedRight b)
+extended-of-gives : {s : List ℕ} (b : Bool) (word : ℕ) → b ≡ true → Gives s (extendedOf (wordBy extendedKept word)) (ExtendedRight b)
 extended-of-gives b word e =
     let w = wordBy extendedKept word in
     gives-bind {Q = λ t. Is (bit 0 w) (t .present) (eqb (t .id) 0)}
@@ -151,7 +152,7 @@ extended-of-gives b word e =
       stats-only = or-true (not (stats .present));
     })
 
-extended-gives : (b : Bool) → Gives (when b noExtended extended) (ExtendedRight b)
+extended-gives : {s : List ℕ} (b : Bool) → Gives s (when b noExtended extended) (ExtendedRight b)
 extended-gives b =
     gives-when b noExtended
     (λ e. gives-bind (gives-any (number 2)) λ word _. extended-of-gives b word e)
@@ -171,7 +172,7 @@ record BodyRight (flags : ℕ) (b : Body) : Type 0 where
   unicast : UnicastRight (bit 12 flags) (b .unicast)
   extended : ExtendedRight (bit 15 flags) (b .extended)
 
-body-gives : (flags : ℕ) → Gives (body flags) (BodyRight flags)
+body-gives : {s : List ℕ} (flags : ℕ) → Gives s (body flags) (BodyRight flags)
 body-gives flags =
     gives-bind (addresses-gives flags) λ addresses a.
     gives-bind (unicast-gives (bit 12 flags)) λ unicast u.
@@ -206,8 +207,11 @@ whole-right h b p q =
     ) in
     joined _ (_ ∷ _ ∷ _ ∷ _ ∷ _ ∷ []) (matches, (extended, (only, (p .right, (words, (absent, tt))))))
 
-pub read-consistent : Gives dataPath (λ r. consistent r ≡ true)
-read-consistent =
+data-path-gives : {s : List ℕ} → Gives s dataPath (λ r. consistent r ≡ true)
+data-path-gives =
     gives-bind head-gives λ h p.
     gives-bind (body-gives (h .flags)) λ b q.
     gives-give _ (whole-right h b p q)
+
+pub read-consistent : (s : List ℕ) (at : ℕ) {next : ℕ} {r : DataPathStateTLV} → dataPath s at ≡ read r next → consistent r ≡ true
+read-consistent s at e = data-path-gives {s = s} .of {at = at} e

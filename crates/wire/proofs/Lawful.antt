@@ -100,6 +100,12 @@ pub steps : {A B : Type 0} (r : Reading A) (f : A → ℕ → Reading B) {b : B}
 steps (read a mid) f e = record { first = a; mid = mid; begins = refl; goes = e }
 steps (refused why) f e = absurd (never e)
 
+-- readers in a row, grouped to the left or to the right
+pub grouped : {A B C : Type 0} (r : Reading A) (k : A → ℕ → Reading B) (l : B → ℕ → Reading C)
+    → onward (onward r k) l ≡ onward r (λ a next. onward (k a next) l)
+grouped (read a next) k l = refl
+grouped (refused why) k l = refl
+
 pub bind-lawful : {A B : Type 0} {m : Reader A} {f : A → Reader B} → Lawful m → ((a : A) → Lawful (f a)) → Lawful (m >>= f)
 bind-lawful {m} {f} lm lf =
     record {
