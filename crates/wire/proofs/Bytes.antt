@@ -12,7 +12,7 @@ use lib.Seq.{drop-cons, length-take-le}
 use borrow.Author.Tests.{le-leb, lt-leb, leb-true}
 use Rattle.wire.specs.declared.refusal.Refusal.{Refusal}
 use Rattle.wire.specs.declared.refusal.Refusal.the-variants.{Short}
-use Rattle.wire.specs.Reading.{Reading, read, refused, field}
+use Rattle.wire.specs.Reading.{Reading, read, refused, field, give, _>>=_}
 use Rattle.wire.specs.Answer.{Answer, answer, refusal, placeOf}
 use Rattle.wire.specs.Writing.{within}
 use Rattle.wire.specs.Numbers.{little, number}
@@ -48,12 +48,21 @@ field-short n s at h =
     let past : length s < at + suc n = omega arith in
     rw (lt-leb (at + suc n) (length s) past)
 
+-- what is made of a field
+pub made-whole : {A : Type 0} (n : ℕ) (s : List ℕ) (at : ℕ) (g : List ℕ → A) → suc n ≤ length s - at
+    → read (g (getD s at 0 ∷ from s at 1 n)) (at + suc n) ≡ (field (suc n) >>= λ x. give (g x)) s at
+made-whole n s at g h = rw (field-whole n s at h)
+
+pub made-short : {A : Type 0} (n : ℕ) (s : List ℕ) (at : ℕ) (g : List ℕ → A) → length s - at < suc n
+    → refused Short ≡ (field (suc n) >>= λ x. give (g x)) s at
+made-short n s at g h = rw (field-short n s at h)
+
 pub number-whole : (n : ℕ) (s : List ℕ) (at v : ℕ) → suc n ≤ length s - at
     → v ≡ getD s at 0 + 256 * little (from s at 1 n) → read v (at + suc n) ≡ number (suc n) s at
-number-whole n s at v h e = rw (field-whole n s at h, e)
+number-whole n s at v h e = rw e (made-whole n s at little h)
 
 pub number-short : (n : ℕ) (s : List ℕ) (at : ℕ) → length s - at < suc n → refused Short ≡ number (suc n) s at
-number-short n s at h = rw (field-short n s at h)
+number-short n s at h = made-short n s at little h
 
 -- a field whose place was given: it stands within, and is the part up to that place
 pub record PlacedField (n : ℕ) (s : List ℕ) (at next : ℕ) : Type 0 where

@@ -1,8 +1,9 @@
 -- `wire::address_at` meets its contract: the bytes that it reads are those of `field`, by the law over the width.
 -- Assumes nothing.
-use Rattle.wire.proofs.Bytes.{field-whole, field-short}
+use Rattle.wire.proofs.Bytes.{made-whole, made-short}
 use Rattle.wire.proofs.read.address_at.Statement.{statement}
 use Rattle.wire.proofs.read.address_at.Tie as tie
+use Rattle.wire.specs.Addresses.{addressOf}
 use borrow.Author.Needs.{needs}
 use native.Mathlib.Omega.{arith}
 
@@ -12,7 +13,7 @@ left-requires c κs = search needs
 returns : tie.Need-returns
 returns c =
     let a = c .before .before .before .args in
-    rw (field-short 5 (a .s .now) (a .at) (omega arith))
+    made-short 5 (a .s .now) (a .at) addressOf (omega arith)
 
 shared-slice-read-t8 : tie.Need-shared-slice-read-t8
 shared-slice-read-t8 c = search needs
@@ -53,7 +54,7 @@ add-t23 c = search needs
 returns-2 : tie.Need-returns-2
 returns-2 c =
     let a = c .before .before .before .before .before .before .before .before .before .args in
-    rw (field-whole 5 (a .s .now) (a .at) (omega arith))
+    made-whole 5 (a .s .now) (a .at) addressOf (omega arith)
 
 pub address-at-spec : {M : Type 1} → statement M
 address-at-spec =
