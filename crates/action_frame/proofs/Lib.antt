@@ -1,3 +1,4 @@
 pub mod Once
 pub mod Sizes
 pub mod RoundTrip
+pub mod Again

@@ -12,21 +12,10 @@ use Rattle.wire.specs.declared.refusal.Refusal.the-variants.{NotAction, NotVers
 use Rattle.wire.specs.Reading.{Reading, Reader, read, refused, field, give, onward, _>>=_}
 use Rattle.wire.specs.Answer.{Answer, answer, refusal, asked, require}
 use Rattle.wire.specs.Numbers.{little}
-use Rattle.wire.proofs.Lawful.{SameUpTo, never, steps}
-use lib.ListN.{take, drop}
-use lib.Seq.{length-take-le, take-take, take-add, drop-at}
-use borrow.Author.Tests.{le-leb}
+use Rattle.wire.proofs.Lawful.{SameUpTo, same-below, field-within, never, steps}
 use Rattle.wire.proofs.Places.{made-inside}
 use Rattle.action_frame.specs.declared.AWDLActionFrame.{AWDLActionFrame}
 use Rattle.action_frame.specs.Frames.{fixedByte, header}
-
-same-below : (m n : ℕ) (s t : List ℕ) → m ≤ n → SameUpTo n s t → SameUpTo m s t
-same-below m n s t h same = sym (take-take m n s h) ∙ ap (take m) same ∙ take-take m n t h
-
-field-within : (n : ℕ) (s : List ℕ) (at : ℕ) → at + n ≤ length s → field n s at ≡ read (drop at (take (at + n) s)) (at + n)
-field-within n s at h =
-    let before : length (take at s) ≡ at = length-take-le at s (omega arith) in
-    rw (le-leb (at + n) (length s) h, take-add at n s, drop-at (take at s) (take n (drop at s)) at before)
 
 -- a reader that takes so many bytes where it gives a value, and whose answer, also a refusal, depends on these bytes alone
 record Takes {A : Type 0} (r : Reader A) (n : ℕ) : Type 0 where

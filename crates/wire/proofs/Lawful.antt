@@ -22,7 +22,7 @@ use Rattle.wire.specs.Addresses.{addressOf, address}
 abbrev pub SameUpTo : ℕ → List ℕ → List ℕ → Type 0
 SameUpTo n s t = take n s ≡ take n t
 
-same-below : (m n : ℕ) (s t : List ℕ) → m ≤ n → SameUpTo n s t → SameUpTo m s t
+pub same-below : (m n : ℕ) (s t : List ℕ) → m ≤ n → SameUpTo n s t → SameUpTo m s t
 same-below m n s t h same = sym (take-take m n s h) ∙ ap (take m) same ∙ take-take m n t h
 
 -- a reader goes ahead and stays within; only the bytes that it passed matter; where they are cut, it is short
@@ -65,7 +65,7 @@ field-read n s at {a} {next} e = go (leb (at + n) (length s)) refl e
     go false q e = absurd (never e)
 
 -- where a field stands within, it is read
-field-within : (n : ℕ) (s : List ℕ) (at : ℕ) → at + n ≤ length s → field n s at ≡ read (drop at (take (at + n) s)) (at + n)
+pub field-within : (n : ℕ) (s : List ℕ) (at : ℕ) → at + n ≤ length s → field n s at ≡ read (drop at (take (at + n) s)) (at + n)
 field-within n s at h =
     let before : length (take at s) ≡ at = length-take-le at s (omega arith) in
     rw (le-leb (at + n) (length s) h, take-add at n s, drop-at (take at s) (take n (drop at s)) at before)
