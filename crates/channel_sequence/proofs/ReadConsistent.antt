@@ -3,12 +3,14 @@
 use Prim.Native.Nat.{ℕ, _-_, _*_, _≤_}
 use native.Mathlib.Nat.{zero-add}
 use native.Mathlib.Omega.{arith}
+use mathlib.Core.Logic.{_↔_}
 use mathlib.Core.Path.{_≡_, refl, ap, subst, _∙_}
 use mathlib.Core.Bool.{true}
 use mathlib.Core.List.{List, [], _++_}
 use lib.ListN.{length, take, drop, replicate, length-append, length-replicate, take-append-drop}
 use lib.Seq.{drop-at}
 use Rattle.wire.specs.Reading.{read, field, give}
+use Rattle.wire.specs.FromBytes.{ReadFromBytes}
 use Rattle.wire.specs.Answer.{Answer, answer, refusal}
 use Rattle.wire.proofs.Lawful.{never, steps}
 use Rattle.wire.proofs.Places.{field-size}
@@ -18,7 +20,7 @@ use Rattle.channel_sequence.specs.declared.channel_sequence.ChannelSeque
 use Rattle.channel_sequence.specs.Channels.{encodingOf, entrySize}
 use Rattle.channel_sequence.specs.Sequences.{consistentBytes, consistent, padded}
 use Rattle.channel_sequence.specs.SequenceReader.{keptEntries, keptBytes, sequence}
-use Rattle.channel_sequence.specs.Readable.{SequenceInWidth, Readable, ConsistentAsReadable}
+use Rattle.channel_sequence.specs.Widths.{SequenceInWidth}
 use Rattle.channel_sequence.proofs.Entries.{padded-full, size-most, sequence-sized, wire-bytes}
 use Rattle.channel_sequence.proofs.Flags.{length-kept, entries-fit}
 use Rattle.channel_sequence.proofs.RoundTrip.{round-trip}
@@ -79,7 +81,7 @@ read-consistent n s at e =
       rw (← w .made, w .found) (ap answer (padded-consistent (w .encoding) (w .bytes) (w .size))),
     )
 
-consistent-read : (q : ChannelSequence) → SequenceInWidth q → consistent q ≡ answer true → Readable q
+consistent-read : (q : ChannelSequence) → SequenceInWidth q → consistent q ≡ answer true → ReadFromBytes (sequence (q .encoding)) q
 consistent-read q fits e =
     let w = round-trip q (fits .many) e in
     let n = length (w .bytes) in
@@ -93,5 +95,5 @@ consistent-read q fits e =
       reads = subst (λ (s : List ℕ). sequence (q .encoding) s 0 ≡ read q n) all (w .back .back [] behind ∙ ap (read q) (zero-add n));
     }
 
-pub consistent-as-readable : ConsistentAsReadable
-consistent-as-readable q fits = (consistent-read q fits, λ r. read-consistent (q .encoding) (r .bytes) 0 (r .reads) .2)
+pub consistent-exactly : (q : ChannelSequence) → SequenceInWidth q → (consistent q ≡ answer true) ↔ ReadFromBytes (sequence (q .encoding)) q
+consistent-exactly q fits = (consistent-read q fits, λ r. read-consistent (q .encoding) (r .bytes) 0 (r .reads) .2)

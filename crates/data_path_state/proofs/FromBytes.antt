@@ -5,11 +5,13 @@ use native.Mathlib.Nat.{zero-add}
 use native.Mathlib.Omega.{arith}
 use mathlib.Core.Path.{_≡_, ap, _∙_}
 use mathlib.Core.Bool.{Bool, true, false, cond}
+use mathlib.Core.Logic.{_↔_}
 use mathlib.Core.List.{List, [], append-nil}
 use lib.Dec.{eqb, lit<}
 use lib.ListN.{length, getD}
 use Rattle.wire.specs.declared.refusal.Refusal.the-variants.{UnicastLength}
 use Rattle.wire.specs.Reading.{read}
+use Rattle.wire.specs.FromBytes.{ReadFromBytes}
 use Rattle.wire.specs.Numbers.{number, bit}
 use Rattle.wire.specs.Addresses.{addressBytes, zeroAddress}
 use Rattle.wire.specs.Words.{wordBy}
@@ -25,7 +27,7 @@ use Rattle.data_path_state.specs.declared.data_path_state_tlv.DataPathSt
 use Rattle.data_path_state.specs.DataPath.{dataPath}
 use Rattle.data_path_state.specs.Ranges.{Ranges}
 use Rattle.data_path_state.specs.Bytes.{wordBytes, headBytes, addressesBytes, unicastBytes, extendedBytes, recordBytes}
-use Rattle.data_path_state.specs.FromBytes.{ConsistentExactly}
+use Rattle.data_path_state.specs.Consistent.{consistent}
 use Rattle.data_path_state.proofs.RoundTrip.{record-back}
 use Rattle.data_path_state.proofs.ReadConsistent.{read-consistent}
 
@@ -167,7 +169,7 @@ module _ {s : List ℕ} (octets : Octets s) where
 pub read-ranges : (s : List ℕ) → ((i : ℕ) → getD s i 0 < 256) → (at : ℕ) {next : ℕ} {r : DataPathStateTLV} → dataPath s at ≡ read r next → Ranges r
 read-ranges s small at e = data-path-ranges {s = s} (record { small = small }) .of {at = at} e
 
-pub read-exactly : (r : DataPathStateTLV) → ConsistentExactly r
+pub read-exactly : (r : DataPathStateTLV) → (Ranges r × (consistent r ≡ true)) ↔ ReadFromBytes dataPath r
 read-exactly r = (
   λ p. record {
     bytes = recordBytes r;

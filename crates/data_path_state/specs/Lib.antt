@@ -1,10 +1,9 @@
--- DataPath: how a record is read; Ranges: the bounds of its fields; Consistent: when it can be written; FromBytes: that these are the records
--- that bytes are read as; Bytes: its size and its bytes; Mended: what mending makes of it; Rewritten: what of a value comes back; Said and
--- Outcomes: what the reader's answer says, and the number and values that it stands for.
+-- DataPath: how a record is read; Ranges: the bounds of its fields; Consistent: when it can be written; Bytes: its size and its
+-- bytes; Mended: what mending makes of it; Rewritten: what of a value comes back; Said and Outcomes: what the reader's answer
+-- says, and the number and values that it stands for.
 pub mod DataPath
 pub mod Ranges
 pub mod Consistent
-pub mod FromBytes
 pub mod Bytes
 pub mod Mended
 pub mod Rewritten
