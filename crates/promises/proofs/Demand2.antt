@@ -1,16 +1,21 @@
--- What was written of a consistent record is read back, and what was read is written again: each format's own laws say so.
+-- What was written of a consistent record is read back, what was read is written again, and a caller who goes on to the end is given all there is: each crate's own laws say so.
 -- Assumes nothing.
-use mathlib.Core.Path.{refl}
+use Rattle.channel_sequence.proofs.Flags.{kept-mask}
+use Rattle.channel_sequence.proofs.ReadConsistent as Q
+use Rattle.channel_sequence.proofs.Again as Q′
 use Rattle.data_path_state.proofs.Sizes.{size-range}
-use Rattle.data_path_state.proofs.ReadConsistent.{read-consistent}
-use Rattle.data_path_state.proofs.Again.{written-again as data-path-again}
+use Rattle.data_path_state.proofs.Masks.{kept-extended-mask, kept-options-mask}
+use Rattle.data_path_state.proofs.ReadConsistent as D
+use Rattle.data_path_state.proofs.Again as D′
+use Rattle.data_path_state.proofs.FromBytes.{read-exactly}
 use Rattle.data_path_state.proofs.Mending.{mended-consistent, mended-same}
-use Rattle.synchronization_parameters.proofs.Again.{written-again as synchronization-again}
-use Rattle.tlvs.specs.Search.{allFrom}
-use Rattle.tlvs.proofs.Searches.{finds}
+use Rattle.synchronization_parameters.proofs.Again as S
+use Rattle.tlvs.proofs.Walks.{gives-walk, gives-walk-once}
+use Rattle.tlvs.proofs.Searches.{gives-all, gives-all-once}
+use Rattle.action_frame.proofs.Again as F
 use Rattle.report.proofs.Report.{gives-dump, gives-once}
-use Rattle.promises.proofs.RoundTrips.{sequence-round, data-path-round, synchronization-round, item-round, frame-round, tail-round, found-none}
 use Rattle.promises.specs.Demand2.{Demand2}
+use Rattle.promises.proofs.RoundTrips.{sequence-round, data-path-round, synchronization-round, item-round, frame-round, tail-round}
 
 pub demand2 : Demand2
 demand2 =
@@ -21,15 +26,25 @@ demand2 =
       items = item-round;
       frames = frame-round;
       sizes = size-range;
-      masks = (refl, refl);
-      data-paths-consistent = λ s at e. read-consistent .of {s = s} {at = at} e;
-      data-paths-again = λ s at e. data-path-again .of {s = s} {at = at} e;
-      synchronizations-again = λ s small e. synchronization-again s small e;
+      extended-mask = kept-extended-mask;
+      options-mask = kept-options-mask;
+      legacy-mask = kept-mask;
+      sequences-consistent = λ encoding s at e. Q.read-consistent encoding s at e;
+      data-paths-consistent = λ s at e. D.read-consistent s at e;
+      headers-consistent = λ s b at e. F.read-in-width s b at e;
+      sequences-again = λ encoding s at e. Q′.written-again encoding s at e;
+      data-paths-again = λ s b at e. D′.written-again s b at e;
+      synchronizations-again = λ s b e. S.written-again s b e;
+      headers-again = λ s b at e. F.written-again s b at e;
+      sequences-exactly = Q.consistent-exactly;
+      data-paths-exactly = read-exactly;
       mended-consistent = mended-consistent;
       mended-same = mended-same;
+      tails = tail-round;
+      walked = gives-walk;
+      walked-once = λ tail g. gives-walk-once g (gives-walk tail);
+      searched = λ type reader tail. gives-all type reader tail;
+      searched-once = λ type reader tail g. gives-all-once type reader tail g (gives-all type reader tail);
       dumped = gives-dump;
       dumped-once = λ input g. gives-once input g (gives-dump input);
-      tails = tail-round;
-      searched = λ type reader tail at e. let w = finds type reader tail at e in (w .ahead, w .inside, w .all);
-      ended = λ type reader tail at. found-none (allFrom type reader tail at);
     }

@@ -17,7 +17,7 @@ use Rattle.channel_sequence.specs.Channels.{encodingOf, entrySize, sizeOfEncodi
 use Rattle.channel_sequence.specs.Sequences as Q
 use Rattle.channel_sequence.specs.SequenceReader.{sequence}
 use Rattle.channel_sequence.specs.Said.{saidEncoding, saidCorrected, saidConsistent, sequenceRead, sequenceFixed}
-use Rattle.data_path_fields.specs.Words.{extendedKept, optionsKept, channelOf, wordOf}
+use Rattle.data_path_fields.specs.Words.{hasAny, extendedKept, optionsKept, channelOf, wordOf}
 use Rattle.data_path_fields.specs.Fields.{head, body}
 use Rattle.data_path_fields.specs.Said.{saidHead, saidBody}
 use Rattle.data_path_state.specs.DataPath.{dataPath}
@@ -28,7 +28,7 @@ use Rattle.data_path_state.specs.Said.{saidDataPath}
 use Rattle.synchronization_parameters.specs.SynchronizationReader.{synchronization}
 use Rattle.synchronization_parameters.specs.SynchronizationBytes as S
 use Rattle.synchronization_parameters.specs.Said.{synchronizationRead}
-use Rattle.tlvs.specs.Items.{stepAt, valueOf, valueStart}
+use Rattle.tlvs.specs.Items.{stepAt, valueOf, valueStart, valueAt, valueStartAt}
 use Rattle.tlvs.specs.Walk.{walk, endReport}
 use Rattle.tlvs.specs.Search.{nextDataPath, nextSynchronization}
 use Rattle.tlvs.specs.ItemBytes.{itemBytes}
@@ -132,6 +132,8 @@ pub record EveryCall : Type 2 where
       (λ κs a r e. saidHead r ≡ head (now (a .0)) 0)
   pub data-path-body : Call fields.read_body.Symbol.routine fields.read_body.ended
       (λ κs a r e. saidBody r ≡ body (a .1 .1 .0) (now (a .0)) (a .1 .0))
+  pub word-has : Call fields.has.Symbol.routine fields.has.ended
+      (λ κs a r e. r ≡ hasAny (a .0) (a .1 .0))
   pub channel-word-from-u16 : Call words.from_u16.Symbol.routine words.from_u16.ended
       (λ κs a r e. r ≡ channelOf (a .0))
   pub channel-word-as-u16 : Call words.as_u16.Symbol.routine words.as_u16.ended
@@ -148,6 +150,8 @@ pub record EveryCall : Type 2 where
   -- items: a step of the walk, an item's value, the end report, the search for the records of a type, the writer
   pub step : Call tlvs.step.Symbol.routine tlvs.step.ended
       (λ κs a r e. r ≡ stepAt (now (a .0)) (a .1 .0))
+  pub step-with-value : Call tlvs.step_with_value.Symbol.routine tlvs.step_with_value.ended
+      (λ κs a r e. (r .step ≡ stepAt (now (a .0)) (a .1 .0)) × (now (r .value) ≡ valueAt (now (a .0)) (a .1 .0)) × (r .value .ptr ≡ partAt (valueStartAt (now (a .0)) (a .1 .0)) (a .0 .ptr)))
   pub value : Call tlvs.value.Symbol.routine tlvs.value.ended
       (λ κs a r e. (now r ≡ valueOf (now (a .0)) (a .1 .0)) × (r .ptr ≡ partAt (valueStart (now (a .0)) (a .1 .0)) (a .0 .ptr)))
   pub end : Call tlvs.end.Symbol.routine tlvs.end.ended
@@ -168,7 +172,7 @@ pub record EveryCall : Type 2 where
   pub read-tlvs-go-on : Call readers.go_on.Symbol.routine readers.go_on.ended
       (λ κs a r e. (r .bytes ≡ a .0 .bytes) × (r .at ≡ a .1 .0))
   pub read-tlvs-next : Call readers.next.Symbol.routine readers.next.ended
-      (λ κs a r e. r ≡ stepAt (now (a .0 .bytes)) (a .0 .at))
+      (λ κs a r e. (r .step ≡ stepAt (now (a .0 .bytes)) (a .0 .at)) × (now (r .value) ≡ valueAt (now (a .0 .bytes)) (a .0 .at)) × (r .value .ptr ≡ partAt (valueStartAt (now (a .0 .bytes)) (a .0 .at)) (a .0 .bytes .ptr)))
   pub read-tlvs-first-data-path : Call readers.first_data_path.Symbol.routine readers.first_data_path.ended
       (λ κs a r e. saidFoundDataPath r ≡ nextDataPath (now (a .0 .bytes)) (a .0 .at))
   pub read-tlvs-first-synchronization : Call readers.first_synchronization.Symbol.routine readers.first_synchronization.ended
@@ -225,6 +229,7 @@ every-call =
       data-path-write = λ M. data-paths.write.Met.met;
       data-path-head = λ M. fields.read_head.Met.met;
       data-path-body = λ M. fields.read_body.Met.met;
+      word-has = λ M. fields.has.Met.met;
       channel-word-from-u16 = λ M. words.from_u16.Met.met;
       channel-word-as-u16 = λ M. words.as_u16.Met.met;
       unicast-options-from-bits = λ M. options.from_bits.Met.met;
@@ -232,6 +237,7 @@ every-call =
       synchronization-read = λ M. synchronizations.read.Met.met;
       synchronization-write = λ M. synchronizations.write.Met.met;
       step = λ M. tlvs.step.Met.met;
+      step-with-value = λ M. tlvs.step_with_value.Met.met;
       value = λ M. tlvs.value.Met.met;
       end = λ M. tlvs.end.Met.met;
       next-data-path = λ M. tlvs.next_data_path.Met.met;

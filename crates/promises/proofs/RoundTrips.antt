@@ -2,10 +2,9 @@
 -- Assumes nothing.
 use Prim.Native.Nat.{ℕ}
 use native.Mathlib.Nat.{zero-add}
-use native.Mathlib.Omega.{arith}
 use mathlib.Core.Path.{_≡_, refl, sym, ap, _∙_}
 use mathlib.Core.Bool.{true}
-use mathlib.Core.List.{List, [], _∷_, _++_}
+use mathlib.Core.List.{List, [], _++_}
 use lib.Dec.{leb}
 use lib.ListN.{length, drop}
 use lib.Seq.{take-append-seam}
@@ -21,7 +20,6 @@ use Rattle.synchronization_parameters.specs.SynchronizationBytes.{bytesOf}
 use Rattle.synchronization_parameters.proofs.RoundTrip as S
 use Rattle.tlvs.specs.declared.item.Step.{Step}
 use Rattle.tlvs.specs.Walk.{whole, walk}
-use Rattle.tlvs.specs.Search.{Match, firstOf, nothing}
 use Rattle.tlvs.specs.ItemBytes.{typeLengthValue}
 use Rattle.tlvs.proofs.Sizes.{sized-bytes, item-length}
 use Rattle.tlvs.proofs.RoundTrip as T
@@ -77,8 +75,3 @@ frame-round f ok =
 
 pub tail-round : (its : List Sent) → AllSendable its → (sentIn (tailWith its) ≡ its) × (walk (tailWith its) .ending ≡ whole)
 tail-round its ok = let w = walked-back its ok in (w .sent, w .ending)
-
--- nothing is found where there is nothing
-pub found-none : {A : Type 0} (xs : List (Match A)) → firstOf xs ≡ nothing → xs ≡ []
-found-none [] e = refl
-found-none (x ∷ xs) e = absurd (let z : _≡_ {A = ℕ} 0 1 = cc in omega arith)

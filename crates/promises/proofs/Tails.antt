@@ -21,10 +21,7 @@ use Rattle.tlvs.specs.Sent.{Sent, Sendable, AllSendable, sent, sentIn, tailWith
 use Rattle.tlvs.specs.Walk.{whole, Walk, goOn, walkFrom, walk}
 use Rattle.tlvs.proofs.Steps.{step-stands, step-whole}
 use Rattle.tlvs.proofs.RoundTrip.{tail-back}
-
--- each byte of a list is one
-abbrev pub Bytes : List ℕ → Type 0
-Bytes s = (i : ℕ) → getD s i 0 < 256
+use Rattle.promises.specs.Formats.{Bytes}
 
 -- an item by the bytes at its place
 record Headed (s : List ℕ) (at : ℕ) (it : Item) : Type 0 where

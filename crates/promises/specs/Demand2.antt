@@ -3,13 +3,24 @@
 use Prim.Native.Nat.{ℕ, _^_, _≤_, _<_}
 use mathlib.Core.Path.{_≡_}
 use mathlib.Core.Bool.{true}
-use mathlib.Core.List.{List, [], _∷_}
-use lib.ListN.{length, getD}
+use mathlib.Core.List.{List}
+use mathlib.Core.Logic.{_↔_}
+use lib.Bits.{bitAnd}
+use lib.ListN.{length}
 use Rattle.wire.specs.Reading.{Reader, read}
-use Rattle.wire.specs.Words.{maskOf}
+use Rattle.wire.specs.FromBytes.{ReadFromBytes}
+use Rattle.wire.specs.Answer.{answer}
+use Rattle.wire.specs.Words.{wordBy}
+use Rattle.channel_sequence.specs.declared.channel_sequence.ChannelSequence.{ChannelSequence}
+use Rattle.channel_sequence.specs.Channels.{keptFlags}
+use Rattle.channel_sequence.specs.Sequences as Q
+use Rattle.channel_sequence.specs.SequenceReader.{sequence}
+use Rattle.channel_sequence.specs.Widths.{SequenceInWidth}
+use Rattle.channel_sequence.specs.Rewritten as Q′
 use Rattle.data_path_fields.specs.Words.{extendedKept, optionsKept}
 use Rattle.data_path_state.specs.declared.data_path_state_tlv.DataPathStateTLV.{DataPathStateTLV}
 use Rattle.data_path_state.specs.DataPath.{dataPath}
+use Rattle.data_path_state.specs.Ranges.{Ranges}
 use Rattle.data_path_state.specs.Consistent.{consistent, ChannelRight}
 use Rattle.data_path_state.specs.Bytes.{recordBytes, sum}
 use Rattle.data_path_state.specs.Mended.{mended}
@@ -19,13 +30,16 @@ use Rattle.synchronization_parameters.specs.SynchronizationReader.{synchronizat
 use Rattle.synchronization_parameters.specs.SynchronizationBytes.{bytesOf}
 use Rattle.synchronization_parameters.specs.Rewritten as S
 use Rattle.tlvs.specs.declared.item.Item.{Item}
-use Rattle.tlvs.specs.Walk.{whole, walk}
-use Rattle.tlvs.specs.Search.{allFrom, nextFrom, found, nothing}
+use Rattle.tlvs.specs.Walk.{Ending, whole, walk, GivesItems}
+use Rattle.tlvs.specs.Search.{Match, allOf, nextFrom, GivesRecords}
 use Rattle.tlvs.specs.Sent.{AllSendable, Sent, sentIn, tailWith}
+use Rattle.action_frame.specs.declared.AWDLActionFrame.{AWDLActionFrame}
+use Rattle.action_frame.specs.Frames.{header, headerBytes, InWidth}
+use Rattle.action_frame.specs.Rewritten as F
 use Rattle.report.specs.Lines.{dumpLines}
 use Rattle.report.specs.Marks.{firstMark, GivesLines}
 use Rattle.promises.specs.Formats as formats
-use Rattle.promises.specs.Formats.{RoundTrip}
+use Rattle.promises.specs.Formats.{Bytes, RoundTrip}
 
 pub record Demand2 : Type 1 where
   -- a consistent record that is written into enough room fills exactly its size, and reads back as itself
@@ -34,27 +48,42 @@ pub record Demand2 : Type 1 where
   pub synchronizations : RoundTrip formats.synchronizations
   pub items : RoundTrip formats.items
   pub frames : RoundTrip formats.frames
-  -- a data path record takes 2 to 57 bytes, and its words keep these bits
+  -- a data path record takes 2 to 57 bytes
   pub sizes : (r : DataPathStateTLV) → (2 ≤ sum r) × (sum r ≤ 57)
-  pub masks : (maskOf extendedKept ≡ 0xFF7F) × (maskOf optionsKept ≡ 0xFFFFFE6A)
-  -- a data path record that was read is consistent, so that it can be written again
+  -- a word without its dropped bits is the word AND its mask
+  pub extended-mask : (w : ℕ) → wordBy extendedKept w ≡ bitAnd w 0xFF7F
+  pub options-mask : (w : ℕ) → wordBy optionsKept w ≡ bitAnd w 0xFFFFFE6A
+  pub legacy-mask : (w : ℕ) → keptFlags w ≡ bitAnd w 0x3F
+  -- what was read is consistent, so that it can be written again; a header needs only to be within its widths
+  pub sequences-consistent : (encoding : ℕ) (s : List ℕ) (at : ℕ) {next : ℕ} {q : ChannelSequence} → sequence encoding s at ≡ read q next
+      → (q .encoding ≡ encoding) × (length (q .bytes) ≡ 32) × (Q.consistent q ≡ answer true)
   pub data-paths-consistent : (s : List ℕ) (at : ℕ) {next : ℕ} {r : DataPathStateTLV} → dataPath s at ≡ read r next → consistent r ≡ true
-  -- a value that was read and is written again gives the bytes that `rewritten` says: its own, but for what is dropped
-  pub data-paths-again : (s : List ℕ) (at : ℕ) {next : ℕ} {r : DataPathStateTLV} → dataPath s at ≡ read r next
+  pub headers-consistent : (s : List ℕ) → Bytes s → (at : ℕ) {next : ℕ} {f : AWDLActionFrame} → header s at ≡ read f next → InWidth f
+  -- what was read and is written again gives the bytes that `rewritten` says: its own, but for what is dropped
+  pub sequences-again : (encoding : ℕ) (s : List ℕ) (at : ℕ) {next : ℕ} {q : ChannelSequence} → sequence encoding s at ≡ read q next
+      → (bytes : List ℕ) × (Q.bytesOf q ≡ answer bytes) × (Q′.rewritten encoding s at ≡ read bytes next)
+  pub data-paths-again : (s : List ℕ) → Bytes s → (at : ℕ) {next : ℕ} {r : DataPathStateTLV} → dataPath s at ≡ read r next
       → D.rewritten s at ≡ read (recordBytes r) next
-  pub synchronizations-again : (s : List ℕ) → ((i : ℕ) → getD s i 0 < 256) → {p : SynchronizationParametersTLV} {size : ℕ}
-      → synchronization s 0 ≡ read p size → S.rewritten s 0 ≡ read (bytesOf p) size
+  pub synchronizations-again : (s : List ℕ) → Bytes s → {p : SynchronizationParametersTLV} {size : ℕ} → synchronization s 0 ≡ read p size
+      → S.rewritten s 0 ≡ read (bytesOf p) size
+  pub headers-again : (s : List ℕ) → Bytes s → (at : ℕ) {next : ℕ} {f : AWDLActionFrame} → header s at ≡ read f next
+      → F.rewritten s at ≡ read (headerBytes f) next
+  -- a record within its widths is consistent exactly when some bytes are read as it
+  pub sequences-exactly : (q : ChannelSequence) → SequenceInWidth q → (Q.consistent q ≡ answer true) ↔ ReadFromBytes (sequence (q .encoding)) q
+  pub data-paths-exactly : (r : DataPathStateTLV) → (Ranges r × (consistent r ≡ true)) ↔ ReadFromBytes dataPath r
   -- mending makes a record consistent, unless its channel is present and wrong, and leaves a consistent one as it is
   pub mended-consistent : (r : DataPathStateTLV) → ChannelRight r → consistent (mended r) ≡ true
   pub mended-same : (r : DataPathStateTLV) → r .flags .0 < 2 ^ 16 → consistent r ≡ true → mended r ≡ r
-  -- the dump is given the lines of its input, and no others
-  pub dumped : (input : List ℕ) → GivesLines input (firstMark input) (dumpLines input)
-  pub dumped-once : (input : List ℕ) {lines : List (List ℕ)} → GivesLines input (firstMark input) lines → lines ≡ dumpLines input
   -- items that are written one behind the other are the items that the walk gives, each whole
   pub tails : (its : List Sent) → AllSendable its → (sentIn (tailWith its) ≡ its) × (walk (tailWith its) .ending ≡ whole)
-  -- going on from each record that the search finds gives all the accepted records of the type, and it ends behind the last one
-  pub searched : {A : Type 0} (type : ℕ) (reader : Reader A) (tail : List ℕ) (at : ℕ) {a : A} {it : Item} {next : ℕ}
-      → nextFrom type reader tail at ≡ found a it next
-      → (at < next) × (next ≤ length tail) × (allFrom type reader tail at ≡ record { content = a; item = it } ∷ allFrom type reader tail next)
-  pub ended : {A : Type 0} (type : ℕ) (reader : Reader A) (tail : List ℕ) (at : ℕ)
-      → nextFrom type reader tail at ≡ nothing → allFrom type reader tail at ≡ []
+  -- a caller who goes on step by step is given the walk's items and its end, and nothing else
+  pub walked : (tail : List ℕ) → GivesItems tail 0 (walk tail .items) (walk tail .ending)
+  pub walked-once : (tail : List ℕ) {items : List Item} {ending : Ending} → GivesItems tail 0 items ending
+      → (items ≡ walk tail .items) × (ending ≡ walk tail .ending)
+  -- a caller who goes on from each record that a search finds is given all the accepted records of the type, and nothing else
+  pub searched : {A : Type 0} (type : ℕ) (reader : Reader A) (tail : List ℕ) → GivesRecords (nextFrom type reader tail) 0 (allOf type reader tail)
+  pub searched-once : {A : Type 0} (type : ℕ) (reader : Reader A) (tail : List ℕ) {matches : List (Match A)}
+      → GivesRecords (nextFrom type reader tail) 0 matches → matches ≡ allOf type reader tail
+  -- a caller who goes on line by line is given the lines of the dump, and nothing else
+  pub dumped : (input : List ℕ) → GivesLines input (firstMark input) (dumpLines input)
+  pub dumped-once : (input : List ℕ) {lines : List (List ℕ)} → GivesLines input (firstMark input) lines → lines ≡ dumpLines input

@@ -1,9 +1,9 @@
 -- What is written, and what is read back of it.
 use mathlib.Core.Path.{_≡_}
-use Prim.Native.Nat.{ℕ, _+_, _≤_}
+use Prim.Native.Nat.{ℕ, _+_, _≤_, _<_}
 use mathlib.Core.Bool.{true}
 use mathlib.Core.List.{List, _++_}
-use lib.ListN.{length, take, drop}
+use lib.ListN.{length, getD, take, drop}
 use Rattle.wire.specs.Reading.{read}
 use Rattle.wire.specs.Numbers.{AllInWidth}
 use Rattle.wire.specs.Answer.{Answer, answer}
@@ -27,6 +27,10 @@ use Rattle.tlvs.specs.Sent.{Sent, Sendable}
 use Rattle.action_frame.specs.declared.AWDLActionFrame.{AWDLActionFrame}
 use Rattle.action_frame.specs.Frames as F
 use Rattle.action_frame.specs.Frames.{header, tailOf}
+
+-- every number of a list is a byte, as in every slice of the code
+abbrev pub Bytes : List ℕ → Type 0
+Bytes s = (i : ℕ) → getD s i 0 < 256
 
 -- what is written of a record and how long that is, when it is consistent, and what it is to find it at the start of some
 -- bytes, with its size. A sequence's reader is told the encoding.

@@ -2,7 +2,7 @@
 use mathlib.Core.Path.{_≡_}
 use Prim.Native.Nat.{ℕ, _≤_, _<_}
 use mathlib.Core.List.{List, _∷_, _++_, map}
-use lib.ListN.{length, getD, take}
+use lib.ListN.{length, take}
 use Rattle.wire.specs.Reading.{Reading, Reader, read}
 use Rattle.data_path_state.specs.declared.data_path_state_tlv.DataPathStateTLV.{DataPathStateTLV}
 use Rattle.data_path_state.specs.DataPath.{dataPath}
@@ -13,6 +13,7 @@ use Rattle.tlvs.specs.Search.{allOf}
 use Rattle.tlvs.specs.Sent.{Sent, sentIn, tailWith}
 use Rattle.action_frame.specs.declared.AWDLActionFrame.{AWDLActionFrame}
 use Rattle.action_frame.specs.Frames.{header, tailOf}
+use Rattle.promises.specs.Formats.{Bytes}
 
 -- an item of a type that we do not read; its length can be said
 pub record Unread (it : Sent) : Type 0 where
@@ -44,7 +45,7 @@ pub data Changes : List Sent → List Sent → Type 0 where
 -- A frame whose items are all whole: 12 bytes or more, and a tail that the walk takes to its end. Its header may be one that is
 -- refused, with 2 or 3. Its tail is of bytes, as every slice of the code is.
 pub record WholeFrame (frame : List ℕ) : Type 0 where
-  pub bytes : (i : ℕ) → getD (tailOf frame) i 0 < 256
+  pub bytes : Bytes (tailOf frame)
   pub long : 12 ≤ length frame
   pub ending : walk (tailOf frame) .ending ≡ whole
 

@@ -5,7 +5,7 @@ pub mod Demand1
 pub mod Demand2
 pub mod Demand3
 pub mod Rows
+pub mod Formats
 pub mod Later
 pub mod Calls
 pub mod Answers
-pub mod Formats
