@@ -434,6 +434,86 @@ def all_number_rows():
     print("types: " + " ".join(str(number) for number in NAMED_TYPES))
 
 
+# The bits that the original names, by their numbers, in its order; then the mask of those that are kept.
+NAMED_BITS = {
+    "data path flags": (
+        ("INFRA_BSSID_CHANNEL_PRESENT", [0]),
+        ("INFRA_ADDRESS_PRESENT", [1]),
+        ("AWDL_ADDRESS_PRESENT", [2]),
+        ("RSDB_SUPPORT", [3]),
+        ("IS_UMI", [4]),
+        ("DUALBAND_SUPPORT", [5]),
+        ("AIRPLAY_SINK", [6]),
+        ("FOLLOW_CHANNEL_SEQUENCE", [7]),
+        ("COUNTRY_CODE_PRESENT", [8]),
+        ("CHANNEL_MAP_PRESENT", [9]),
+        ("AIRPLAY_SOLO_MODE_SUPPORT", [10]),
+        ("UMI_SUPPORT", [11]),
+        ("UNICAST_OPTIONS_PRESENT", [12]),
+        ("IS_REALTIME", [13]),
+        ("RANGEABLE", [14]),
+        ("EXTENDED_FLAGS", [15]),
+    ),
+    "extended flags": (
+        ("LOG_TRIGGER_ID_PRESENT", [0]),
+        ("RANGING_DISCOVERY_SUPPORTED", [1]),
+        ("RLFC_PRESENT", [2]),
+        ("IS_SOCIAL_CHANNEL_MAP_SUPPORTED", [3]),
+        ("DYNAMIC_SDB_ACTIVE", [4]),
+        ("STATS_PRESENT", [5]),
+        ("DFS_PROXY_SUPPORT", [6]),
+        ("HIGH_EFFICIENCY_SUPPORT", [8]),
+        ("IS_SIDEKICK_HUB", [9]),
+        ("FAST_DISCOVERY_ACTIVE", [10]),
+        ("WIFI_SIX_E_SUPPORT", [11]),
+        ("ULTRA_LOW_LATENCY_INFRA_SUPPORT", [12]),
+        ("PRO_MODE_ACTIVE", [13]),
+        ("UNKNOWN", [14, 15]),
+    ),
+    "unicast options": (
+        ("START_AIRPLAY", [1]),
+        ("CACHE_REQUEST", [3]),
+        ("JUMPSTART_DFS_PROXY", [5]),
+        ("AIRPLAY_ON_DFS_CHANNEL", [6]),
+        ("START_SIDECAR", [9]),
+        ("SIDECAR_BG_REQUEST", [10]),
+        ("SIDECAR_FG_REQUEST", [11]),
+        ("STOP_SIDECAR", [12]),
+        ("START_MULTI_PEER_STEERING", [13]),
+        ("START_REAL_TIME_MODE", [14]),
+        ("STOP_REAL_TIME_MODE", [15]),
+        ("START_AIRPLAY_RECOVERY", [16]),
+        ("START_HT_MODE", [17]),
+        ("STOP_HT_MODE", [18]),
+        ("STOP_AIRPLAY", [19]),
+        ("FAILED_MULTI_PEER_STEERING", [20]),
+        ("UNKNOWN", [21, 22, 23]),
+        ("START_RTG_ENSEMBLE", [24]),
+        ("STOP_RTG_ENSEMBLE", [25]),
+        ("START_AIRPLAY_IN_RTG_MODE", [26]),
+        ("STOP_AIRPLAY_IN_RTG_MODE", [27]),
+        ("START_SIDECAR_IN_RTG_MODE", [28]),
+        ("STOP_SIDECAR_IN_RTG_MODE", [29]),
+        ("START_REMOTE_CAMERA", [30]),
+        ("STOP_REMOTE_CAMERA", [31]),
+    ),
+    "channel map": (
+        ("CHANNEL_6", [0]),
+        ("CHANNEL_44", [1]),
+        ("CHANNEL_149", [2]),
+    ),
+}
+KEPT = {"extended flags": 0xFF7F, "unicast options": 0xFFFFFE6A, "channel map": 0x7}
+
+
+def all_named_bits():
+    for title, names in NAMED_BITS.items():
+        row = [f"{name} {sum(1 << bit for bit in bits)}" for name, bits in names]
+        if title in KEPT:
+            row.append(f"KEEP {KEPT[title]}")
+        print(f"{title}: " + " ".join(row))
+
+
 def main():
     all_sync_rows()
     all_item_rows()
@@ -442,6 +522,7 @@ def main():
     all_reader_rows()
     all_stamp_rows()
     all_number_rows()
+    all_named_bits()
 
 
 main()

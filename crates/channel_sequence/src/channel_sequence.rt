@@ -183,6 +183,7 @@ fn copied(part: &[u8]) -> [u8; 32]
     bytes
 }
 
+// Flags and channel, entry by entry: the flags lose the bits without a name.
 fn kept_entries(part: &[u8]) -> [u8; 32]
     requires { ⌜ length (now part) ≡ 32 ⌝ }
     ensures { λ r. ⌜ r ≡ keptEntries (now (part .entry)) ⌝ }

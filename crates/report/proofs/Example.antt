@@ -4,7 +4,7 @@ use mathlib.Core.Path.{_≡_, refl}
 use mathlib.Core.List.{[], _∷_}
 use Rattle.tlvs.specs.Items.{stepAt}
 use Rattle.tlvs.specs.Walk.{walkFrom}
-use Rattle.report.specs.Text.{text, spelled}
+use Rattle.text.specs.Text.{text, spelled}
 use Rattle.report.specs.Lines.{dumpLines}
 
 example : dumpLines (0x08 ∷ 0x10 ∷ 0x03 ∷ 0 ∷ 0 ∷ 1 ∷ 0 ∷ 0 ∷ 0x10 ∷ 0 ∷ 0 ∷ 0 ∷ 0x0C ∷ 4 ∷ 0 ∷ 0 ∷ 2 ∷ 0x24 ∷ 0 ∷ [])

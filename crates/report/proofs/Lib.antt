@@ -1,4 +1,3 @@
-pub mod Digits
 pub mod Room
 pub mod Places
 pub mod Report

@@ -1,6 +1,5 @@
--- Text: letters and digits; Lines: the lines that are shown of an input; Marks: the places between the lines, from which a
+-- Lines: the lines that are shown of an input; Marks: the places between the lines, from which a
 -- caller goes on; Shown: what a lent buffer holds afterwards.
-pub mod Text
 pub mod Lines
 pub mod Marks
 pub mod Shown

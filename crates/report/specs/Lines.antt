@@ -18,7 +18,7 @@ use Rattle.tlvs.specs.Walk.{Ending, whole, cut, Walk, walk}
 use Rattle.action_frame.specs.declared.AWDLActionFrame.{AWDLActionFrame}
 use Rattle.action_frame.specs.Frames.{header, tailOf}
 use Rattle.action_frame.specs.Stamps.{delta}
-use Rattle.report.specs.Text.{text, named}
+use Rattle.text.specs.Text.{text, named}
 
 abbrev pub refusedLine : Refusal → List ℕ
 refusedLine why = named "refused " (numberOf why) ++ text "\n"

@@ -1,7 +1,7 @@
 // The report of a frame: its lines, one at a time, each in a small buffer that the caller lends.
 mod lines;
 mod marks;
-mod text;
+mod put;
 
 pub use marks::Line;
 pub use marks::Mark;

@@ -8,7 +8,7 @@ ghost use Rattle.report.specs.Lines as Lines;
 ghost use Rattle.report.specs.Marks.{firstMark, atHeader, markBehind, atPlace, standsAt};
 ghost use Rattle.report.specs.Shown.{PutWithRoom, Shows};
 use crate::lines;
-use crate::text::put_text;
+use crate::put::put_text;
 use action_frame::AWDLActionFrame;
 use action_frame::ReadFrame;
 use data_path_state::DataPathStateTLV;

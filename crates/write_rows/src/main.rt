@@ -3,6 +3,7 @@
 ghost use mathlib.Core.Path.{_≡_};
 ghost use lib.ListN.{length};
 
+mod bits;
 mod lend;
 mod show;
 mod synchronization;
@@ -197,4 +198,5 @@ fn main() {
     tails();
     stamps();
     names();
+    bits::bits();
 }

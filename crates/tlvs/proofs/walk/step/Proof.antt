@@ -10,7 +10,7 @@ use Rattle.wire.specs.Said.{saidU8, saidU16, saidPlace}
 use borrow.Author.Needs.{needs}
 use borrow.Author.Tests.{eq-eqb, ne-eqb}
 use lib.ListN.{length}
-use mathlib.Core.Path.{_≡_, sym, ap, _∙_}
+use mathlib.Core.Path.{_≡_, refl, sym, ap, _∙_}
 
 -- where the type and the length were read, the value decides
 headed : (c : tie.After-wide) →
@@ -66,7 +66,7 @@ returns-2 c =
     let a = c .before .before .before .before .before .before .before .before .before .before .before .before .before .before .before .args in
     let said = ap saidPlace (sym (c .before .behind-value .given .1)) ∙ c .before .before .before .field-at .ensures in
     let part = placed (c .before .before .before .before .wide .result) (a .tail .now) (c .before .before .before .before .before .before .v .given .0 .1 .0) said in
-    rw (headed (c .before .before .before .before), part .whole)
+    rw (headed (c .before .before .before .before), part .whole) refl
 
 returns-3 : tie.Need-returns-3
 returns-3 c =

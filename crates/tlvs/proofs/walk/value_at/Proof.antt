@@ -6,7 +6,7 @@ use Rattle.tlvs.proofs.walk.value_at.Tie as tie
 use Rattle.tlvs.specs.Items.{stepAt}
 use Rattle.tlvs.specs.declared.item.Step.{Step}
 use borrow.Author.Needs.{needs}
-use mathlib.Core.Path.{_≡_, sym, _∙_}
+use mathlib.Core.Path.{_≡_, refl, sym, _∙_}
 use native.Mathlib.Omega.{arith}
 
 item : (c : tie.After-known-told) →
@@ -47,7 +47,7 @@ slice-aggregate-result-2 c = search needs
 returns : tie.Need-returns
 returns c =
     let w = found (c .before) in
-    (rw (item (c .before), stands-value w), rw (item (c .before), stands-value w, w .place))
+    (rw (item (c .before), stands-value w) refl, rw (item (c .before), stands-value w, w .place) refl)
 
 returns-2 : tie.Need-returns-2
 returns-2 c =

@@ -4,10 +4,9 @@ use native.Mathlib.Omega.{arith}
 use mathlib.Core.Path.{refl}
 use lib.ListN.{length-set}
 use borrow.Author.Needs.{needs}
-use Rattle.report.proofs.Digits.{some-digit, Gathered, gather-none, gather-more, gather-all}
-use Rattle.report.proofs.Room.{room-put}
-use Rattle.report.proofs.text.put_decimal.Statement.{statement}
-use Rattle.report.proofs.text.put_decimal.Tie as tie
+use Rattle.text.proofs.Digits.{some-digit, Gathered, gather-none, gather-more, gather-all}
+use Rattle.text.proofs.decimal.put_decimal.Statement.{statement}
+use Rattle.text.proofs.decimal.put_decimal.Tie as tie
 
 abbrev Inv-loop : tie.InvT-loop
 Inv-loop buf at n digits₀ first₀ rest₀ digits first rest = Gathered n digits first rest
@@ -52,7 +51,7 @@ returns : tie.Need-returns Inv-loop μ-loop
 returns c =
     let turn = c .before .before .before .before .before .before .before in
     let digits = gather-all (turn .before .loop .inv) (turn .digit .ensures) (omega arith) in
-    room-put (rw digits at (c .before .before .put-slice .ensures)) (turn .before .before .before .pre)
+    rw digits at (c .before .before .put-slice .ensures)
 
 pub put-decimal-spec : {M : Type 1} → statement M
 put-decimal-spec =

@@ -1,8 +1,8 @@
 -- `put_text` meets its contract: the room is there.
 -- Assumes nothing.
 use Rattle.report.proofs.Room.{room-put, room-next}
-use Rattle.report.proofs.text.put_text.Statement.{statement}
-use Rattle.report.proofs.text.put_text.Tie as tie
+use Rattle.report.proofs.put.put_text.Statement.{statement}
+use Rattle.report.proofs.put.put_text.Tie as tie
 use borrow.Author.Needs.{needs}
 use native.Mathlib.Omega.{arith}
 

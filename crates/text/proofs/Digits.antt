@@ -1,4 +1,4 @@
--- A number below ten is its one digit, and any other has the digits of its tenth part in front of the last. Places that are left over change nothing.
+-- A number below ten is its one digit, and any other has the digits of its tenth part in front of the last, so that they can be gathered from the last on.
 -- Assumes nothing.
 use Prim.Native.Nat.{ℕ, zero, suc, _+_, _-_, _/_, _%_, _^_, _≤_, _<_}
 use native.Mathlib.Omega.{arith}
@@ -9,7 +9,7 @@ use lib.Dec.{ltb}
 use lib.ListN.{length, take, drop, set, length-append, length-drop, length-set, drop-of-length-le}
 use lib.Seq.{take-all, set-split, drop-at, length-take-le}
 use borrow.Author.Tests.{ltb-true, ltb-false, lt-ltb, le-ltb}
-use Rattle.report.specs.Text.{spelled, decimal}
+use Rattle.text.specs.Text.{spelled, decimal}
 
 -- as many places as the number needs, or more
 same : (places more n : ℕ) → n < places → n < more → spelled places n ≡ spelled more n

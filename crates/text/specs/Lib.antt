@@ -1,0 +1,2 @@
+-- Text: letters and digits.
+pub mod Text
