@@ -425,31 +425,29 @@ fn announced(s: &[u8], at: usize, word: u16) -> ReadExtended
     ensures { λ r. ⌜ saidExtended r ≡ D.extendedOf word (now (s .entry)) at ⌝ }
 {
     let has_trigger = has(word, DataPathExtendedFlags::LOG_TRIGGER_ID_PRESENT);
+    let has_rlfc = has(word, DataPathExtendedFlags::RLFC_PRESENT);
+    let has_stats = has(word, DataPathExtendedFlags::STATS_PRESENT);
     match log_trigger_id(s, at, has_trigger) {
         ReadTriggerId::Read(trigger, behind_trigger) => {
-            let has_rlfc = has(word, DataPathExtendedFlags::RLFC_PRESENT);
             match one_word(s, behind_trigger, has_rlfc) {
-                ReadWord::Read(rlfc, behind_rlfc) => {
-                    let has_stats = has(word, DataPathExtendedFlags::STATS_PRESENT);
-                    match stats(s, behind_rlfc, has_stats) {
-                        ReadStats::Read(stats, next) => {
-                            let flags = OptionalExtendedFlags {
-                                present: true,
-                                flags: DataPathExtendedFlags(word),
-                            };
-                            return ReadExtended::Read(
-                                Extended {
-                                    flags,
-                                    trigger,
-                                    rlfc,
-                                    stats,
-                                },
-                                next,
-                            );
-                        }
-                        ReadStats::Refused(why) => return ReadExtended::Refused(why),
+                ReadWord::Read(rlfc, behind_rlfc) => match stats(s, behind_rlfc, has_stats) {
+                    ReadStats::Read(stats, next) => {
+                        let flags = OptionalExtendedFlags {
+                            present: true,
+                            flags: DataPathExtendedFlags(word),
+                        };
+                        return ReadExtended::Read(
+                            Extended {
+                                flags,
+                                trigger,
+                                rlfc,
+                                stats,
+                            },
+                            next,
+                        );
                     }
-                }
+                    ReadStats::Refused(why) => return ReadExtended::Refused(why),
+                },
                 ReadWord::Refused(why) => return ReadExtended::Refused(why),
             }
         }

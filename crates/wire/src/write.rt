@@ -91,10 +91,10 @@ pub fn put_u16(buf: &mut [u8], at: usize, v: u16) -> usize
 pub fn put_u32(buf: &mut [u8], at: usize, v: u32) -> usize
     ensures { λ r. ⌜ Put (now (buf .entry)) at (littleBytes 4 v) r (now (buf .exit)) ⌝ }
 {
+    let b = u32_bytes(v);
     if left(buf.len(), at) < 4 {
         return at;
     }
-    let b = u32_bytes(v);
     buf[at] = b[0];
     buf[at + 1] = b[1];
     buf[at + 2] = b[2];

@@ -56,16 +56,14 @@ enum-told c = search needs
 
 loop-less-2 : tie.Need-loop-less-2 Inv-loop μ-loop
 loop-less-2 c =
-    let i = c .before .before .before .before .before .before .before in
-    omega (arith, step-less _ _ (i .before .before .step .ensures) (i .item .given .1))
+    omega (arith, step-less _ _ (c .before .before .before .before .before .before .before .before .before .step .ensures) (c .before .before .before .before .before .before .before .item .given .1))
 
 loop-again-2 : tie.Need-loop-again-2 Inv-loop μ-loop
 loop-again-2 c =
     let v = c .before .before .before in
     let i = v .before .before .before .before in
-    let said = told saidDataPath (c .before .before .read .ensures) (c .enum-told .given .1) in
     search-passes 0x0C dataPath _ _ _ (i .before .before .before .loop .inv) (i .before .before .step .ensures) (i .item .given .1)
-    (value-refused 0x0C dataPath _ _ (v .before .if1 .left) (v .value .ensures .0) said)
+    (value-refused 0x0C dataPath _ _ (v .before .if1 .left) (v .value .ensures .0) (told saidDataPath (c .before .before .read .ensures) (c .enum-told .given .1)))
 
 returns-2 : tie.Need-returns-2 Inv-loop μ-loop
 returns-2 c =

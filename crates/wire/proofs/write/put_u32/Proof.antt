@@ -9,16 +9,16 @@ use lib.ListN.{length-set}
 use mathlib.Core.Path.{refl}
 use native.Mathlib.Omega.{arith}
 
+u32-bytes-requires : tie.Need-u32-bytes-requires
+u32-bytes-requires c κs = search needs
+
 left-requires : tie.Need-left-requires
 left-requires c κs = search needs
 
 returns : tie.Need-returns
 returns c =
-    let a = c .before .before .before .args in
+    let a = c .before .before .before .before .args in
     put-none (a .buf .now) (a .at) (littleBytes 4 (a .v)) (omega arith)
-
-u32-bytes-requires : tie.Need-u32-bytes-requires
-u32-bytes-requires c κs = search needs
 
 array-read-buf : tie.Need-array-read-buf
 array-read-buf c = search needs
@@ -62,15 +62,15 @@ same-length c = search needs
 returns-2 : tie.Need-returns-2
 returns-2 c =
     let a = c .before .before .before .before .args in
-    rw (c .u32-bytes .ensures) (put-stored 3 (a .buf .now) (a .at) (littleBytes 4 (a .v)) refl (omega arith))
+    rw (c .before .before .u32-bytes .ensures) (put-stored 3 (a .buf .now) (a .at) (littleBytes 4 (a .v)) refl (omega arith))
 
 pub put-u32-spec : {M : Type 1} → statement M
 put-u32-spec =
     tie.close
     (tie.spec
+    u32-bytes-requires
     left-requires
     returns
-    u32-bytes-requires
     array-read-buf
     slice-write-buf
     array-read-buf-2
