@@ -1,5 +1,4 @@
--- Bytes that are stored one after the other leave what `putting` says, in a loop or written out; putting one run behind another is
--- putting both at once.
+-- Bytes stored one after the other, in a loop or written out, leave what `putting` says; putting one run behind another is putting both at once.
 -- Assumes nothing.
 use Prim.Native.Nat.{ℕ, zero, suc, _+_, _-_, _≤_, _<_}
 use native.Mathlib.Nat.{add-zero, zero-add, add-assoc, add-suc, suc-add}
