@@ -222,22 +222,20 @@ fn read_addresses(s: &[u8], at: usize, flags: u16) -> ReadAddresses
     ensures { λ r. ⌜ saidAddresses r ≡ D.addresses flags (now (s .entry)) at ⌝ }
 {
     let has_bssid = has(flags, DataPathFlags::INFRA_BSSID_CHANNEL_PRESENT);
+    let has_infra = has(flags, DataPathFlags::INFRA_ADDRESS_PRESENT);
+    let has_awdl = has(flags, DataPathFlags::AWDL_ADDRESS_PRESENT);
     match infra_bssid_channel(s, at, has_bssid) {
-        ReadInfra::Read(bssid, behind_bssid) => {
-            let has_infra = has(flags, DataPathFlags::INFRA_ADDRESS_PRESENT);
-            match one_address(s, behind_bssid, has_infra) {
-                ReadOptionalAddress::Read(infra, behind_infra) => {
-                    let has_awdl = has(flags, DataPathFlags::AWDL_ADDRESS_PRESENT);
-                    match one_address(s, behind_infra, has_awdl) {
-                        ReadOptionalAddress::Read(awdl, next) => {
-                            return ReadAddresses::Read(Addresses { bssid, infra, awdl }, next);
-                        }
-                        ReadOptionalAddress::Refused(why) => return ReadAddresses::Refused(why),
+        ReadInfra::Read(bssid, behind_bssid) => match one_address(s, behind_bssid, has_infra) {
+            ReadOptionalAddress::Read(infra, behind_infra) => {
+                match one_address(s, behind_infra, has_awdl) {
+                    ReadOptionalAddress::Read(awdl, next) => {
+                        return ReadAddresses::Read(Addresses { bssid, infra, awdl }, next);
                     }
+                    ReadOptionalAddress::Refused(why) => return ReadAddresses::Refused(why),
                 }
-                ReadOptionalAddress::Refused(why) => return ReadAddresses::Refused(why),
             }
-        }
+            ReadOptionalAddress::Refused(why) => return ReadAddresses::Refused(why),
+        },
         ReadInfra::Refused(why) => return ReadAddresses::Refused(why),
     }
 }
@@ -425,29 +423,31 @@ fn announced(s: &[u8], at: usize, word: u16) -> ReadExtended
     ensures { λ r. ⌜ saidExtended r ≡ D.extendedOf word (now (s .entry)) at ⌝ }
 {
     let has_trigger = has(word, DataPathExtendedFlags::LOG_TRIGGER_ID_PRESENT);
-    let has_rlfc = has(word, DataPathExtendedFlags::RLFC_PRESENT);
-    let has_stats = has(word, DataPathExtendedFlags::STATS_PRESENT);
     match log_trigger_id(s, at, has_trigger) {
         ReadTriggerId::Read(trigger, behind_trigger) => {
+            let has_rlfc = has(word, DataPathExtendedFlags::RLFC_PRESENT);
             match one_word(s, behind_trigger, has_rlfc) {
-                ReadWord::Read(rlfc, behind_rlfc) => match stats(s, behind_rlfc, has_stats) {
-                    ReadStats::Read(stats, next) => {
-                        let flags = OptionalExtendedFlags {
-                            present: true,
-                            flags: DataPathExtendedFlags(word),
-                        };
-                        return ReadExtended::Read(
-                            Extended {
-                                flags,
-                                trigger,
-                                rlfc,
-                                stats,
-                            },
-                            next,
-                        );
+                ReadWord::Read(rlfc, behind_rlfc) => {
+                    let has_stats = has(word, DataPathExtendedFlags::STATS_PRESENT);
+                    match stats(s, behind_rlfc, has_stats) {
+                        ReadStats::Read(stats, next) => {
+                            let flags = OptionalExtendedFlags {
+                                present: true,
+                                flags: DataPathExtendedFlags(word),
+                            };
+                            return ReadExtended::Read(
+                                Extended {
+                                    flags,
+                                    trigger,
+                                    rlfc,
+                                    stats,
+                                },
+                                next,
+                            );
+                        }
+                        ReadStats::Refused(why) => return ReadExtended::Refused(why),
                     }
-                    ReadStats::Refused(why) => return ReadExtended::Refused(why),
-                },
+                }
                 ReadWord::Refused(why) => return ReadExtended::Refused(why),
             }
         }

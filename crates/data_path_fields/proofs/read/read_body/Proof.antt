@@ -36,11 +36,12 @@ returns c =
     let extended = c .before .before .before in
     let unicast = extended .before .before .before .before .before in
     let addresses = unicast .before .before .before .before .before in
+    let flags = addresses .before .before .args .flags in
     rw (
       told saidAddresses (addresses .read-addresses .ensures) (unicast .before .before .before .addresses .given .1),
-      has-bit 12 _ (unicast .before .has .ensures),
+      has-bit 12 flags (unicast .before .has .ensures),
       told saidUnicast (unicast .read-unicast .ensures) (extended .before .before .before .unicast .given .1),
-      has-bit 15 _ (extended .before .has2 .ensures),
+      has-bit 15 flags (extended .before .has2 .ensures),
       told saidExtended (extended .read-extended .ensures) (c .before .extended .given .1),
     )
 
@@ -52,11 +53,12 @@ returns-2 c =
     let extended = c .before .before .before in
     let unicast = extended .before .before .before .before .before in
     let addresses = unicast .before .before .before .before .before in
+    let flags = addresses .before .before .args .flags in
     rw (
       told saidAddresses (addresses .read-addresses .ensures) (unicast .before .before .before .addresses .given .1),
-      has-bit 12 _ (unicast .before .has .ensures),
+      has-bit 12 flags (unicast .before .has .ensures),
       told saidUnicast (unicast .read-unicast .ensures) (extended .before .before .before .unicast .given .1),
-      has-bit 15 _ (extended .before .has2 .ensures),
+      has-bit 15 flags (extended .before .has2 .ensures),
       told saidExtended (extended .read-extended .ensures) (c .before .why .given .1),
     )
 
@@ -67,9 +69,10 @@ returns-3 : tie.Need-returns-3
 returns-3 c =
     let unicast = c .before .before .before in
     let addresses = unicast .before .before .before .before .before in
+    let flags = addresses .before .before .args .flags in
     rw (
       told saidAddresses (addresses .read-addresses .ensures) (unicast .before .before .before .addresses .given .1),
-      has-bit 12 _ (unicast .before .has .ensures),
+      has-bit 12 flags (unicast .before .has .ensures),
       told saidUnicast (unicast .read-unicast .ensures) (c .before .why2 .given .1),
     )
 

@@ -36,12 +36,13 @@ returns : tie.Need-returns
 returns c =
     let channel = c .before .before .before in
     let country = channel .before .before .before .before .before in
-    let flags = country .before .before .before .before .before in
+    let word = country .before .before .before .before .before in
+    let flags = country .before .before .before .flags .given in
     rw (
-      told saidU16 (flags .u16-at .ensures) (country .before .before .before .flags .given .1),
-      has-bit 8 _ (country .before .has .ensures),
+      told saidU16 (word .u16-at .ensures) (flags .1),
+      has-bit 8 (flags .0 .0) (country .before .has .ensures),
       told saidCountry (country .country-code .ensures) (channel .before .before .before .country .given .1),
-      has-bit 9 _ (channel .before .has2 .ensures),
+      has-bit 9 (flags .0 .0) (channel .before .has2 .ensures),
       told saidChannel (channel .channel-map .ensures) (c .before .channel .given .1),
     )
 
@@ -52,12 +53,13 @@ returns-2 : tie.Need-returns-2
 returns-2 c =
     let channel = c .before .before .before in
     let country = channel .before .before .before .before .before in
-    let flags = country .before .before .before .before .before in
+    let word = country .before .before .before .before .before in
+    let flags = country .before .before .before .flags .given in
     rw (
-      told saidU16 (flags .u16-at .ensures) (country .before .before .before .flags .given .1),
-      has-bit 8 _ (country .before .has .ensures),
+      told saidU16 (word .u16-at .ensures) (flags .1),
+      has-bit 8 (flags .0 .0) (country .before .has .ensures),
       told saidCountry (country .country-code .ensures) (channel .before .before .before .country .given .1),
-      has-bit 9 _ (channel .before .has2 .ensures),
+      has-bit 9 (flags .0 .0) (channel .before .has2 .ensures),
       told saidChannel (channel .channel-map .ensures) (c .before .why .given .1),
     )
 
@@ -67,10 +69,11 @@ enum-known-why-2 c = search needs
 returns-3 : tie.Need-returns-3
 returns-3 c =
     let country = c .before .before .before in
-    let flags = country .before .before .before .before .before in
+    let word = country .before .before .before .before .before in
+    let flags = country .before .before .before .flags .given in
     rw (
-      told saidU16 (flags .u16-at .ensures) (country .before .before .before .flags .given .1),
-      has-bit 8 _ (country .before .has .ensures),
+      told saidU16 (word .u16-at .ensures) (flags .1),
+      has-bit 8 (flags .0 .0) (country .before .has .ensures),
       told saidCountry (country .country-code .ensures) (c .before .why2 .given .1),
     )
 
