@@ -22,11 +22,11 @@ same (suc places) (suc more) n h k = go (ltb n 10) refl (λ big. same places mor
     go true e tenth = rw e
     go false e tenth = rw (e, tenth (ltb-false n 10 e))
 
-one-digit : (n : ℕ) → n < 10 → decimal n ≡ (48 + n) ∷ []
+pub one-digit : (n : ℕ) → n < 10 → decimal n ≡ (48 + n) ∷ []
 unfolding spelled
 one-digit n h = rw (lt-ltb n 10 h)
 
-last-digit : (n : ℕ) → 10 ≤ n → decimal n ≡ decimal (n / 10) ++ ((48 + n % 10) ∷ [])
+pub last-digit : (n : ℕ) → 10 ≤ n → decimal n ≡ decimal (n / 10) ++ ((48 + n % 10) ∷ [])
 unfolding spelled
 last-digit n h = rw (le-ltb n 10 h, same n (suc (n / 10)) (n / 10) (omega arith) (omega arith))
 

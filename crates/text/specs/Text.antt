@@ -1,5 +1,5 @@
 -- Letters and digits.
-use Prim.Native.Nat.{ℕ, zero, suc, _+_, _/_, _%_}
+use Prim.Native.Nat.{ℕ, zero, suc, _+_, _-_, _/_, _%_}
 use Prim.Native.Char.{code}
 use Prim.Native.String.{String, [] as none, _∷_ as _then_}
 use mathlib.Core.Bool.{cond}
@@ -23,3 +23,12 @@ decimal n = spelled (suc n) n
 -- a word and the number behind it
 abbrev pub named : String → ℕ → List ℕ
 named word n = text word ++ decimal n
+
+-- the digit of a number below sixteen
+abbrev pub hexDigit : ℕ → ℕ
+hexDigit d = cond (ltb d 10) (code "0" + d) (code "A" + (d - 10))
+
+-- two digits for each byte, the higher first
+unfoldable pub hex : List ℕ → List ℕ
+hex [] = []
+hex (b ∷ bs) = hexDigit (b / 16) ∷ hexDigit (b % 16) ∷ hex bs
