@@ -5,6 +5,7 @@ use mathlib.Core.Bool.{false}
 use Rattle.wire.specs.Addresses.{zeroAddress}
 use Rattle.wire.specs.Said.{saidU8, saidU16, saidU32, saidAddress, saidPlace, saidSize}
 use Rattle.wire.proofs.Once.{onceU8, onceU16, onceU32, onceAddress, oncePlace, onceSize}
+use Rattle.text.proofs.Once.{onceDecimal, oncePutSaid, onceSame}
 use Rattle.channel_sequence.specs.declared.channel.ChannelEncoding.the-variants.{Simple}
 use Rattle.channel_sequence.specs.Said.{saidEncoding, saidCorrected, saidConsistent}
 use Rattle.channel_sequence.proofs.Once.{onceEncoding, onceCorrected, onceConsistent}
@@ -45,6 +46,9 @@ demand1 =
       delta = call-answers saidDelta 0 (λ a b e. onceDelta e refl);
       end = λ a b e. onceEnd e refl;
       found = λ a b e. onceFoundDataPath e refl;
+      decimal = λ a b e. onceDecimal e refl;
+      put-said = λ s at word a b t u p q. oncePutSaid p q;
+      same = λ xs ys a b p q. onceSame a b p q;
       wrote = λ s bytes said other after last p q. (p .size ∙ sym (q .size), p .buffer ∙ sym (q .buffer));
       put = λ s at bytes next other after last p q. (p .place ∙ sym (q .place), p .buffer ∙ sym (q .buffer));
       writers = refused-buffer;

@@ -3,7 +3,7 @@
 use mathlib.Core.Path.{_≡_}
 use denote.Ref.{now}
 use Prim.Native.Nat.{min}
-use lib.ListN.{length}
+use lib.ListN.{length, replicate}
 use Rattle.wire.specs.Refusals.{numberOf}
 use Rattle.wire.specs.Reading.{field}
 use Rattle.wire.specs.Answer.{answer, placeOf}
@@ -13,6 +13,10 @@ use Rattle.wire.specs.Addresses.{address, addressBytes}
 use Rattle.wire.specs.Parts.{partAt}
 use Rattle.wire.specs.Writing.{within, Put, Wrote}
 use Rattle.wire.specs.Said.{saidU8, saidU16, saidU32, saidAddress, saidPlace, saidSize}
+use Rattle.text.specs.Text.{decimal, hex}
+use Rattle.text.specs.Words.{says, decimalOf, hexOf}
+use Rattle.text.specs.Said.{saidDecimal}
+use Rattle.text.specs.Into.{PutSaid, TellsSame}
 use Rattle.channel_sequence.specs.Channels.{encodingOf, entrySize, sizeOfEncoding, keptFlags, supportChannel, channelBandwidth, band, corrected}
 use Rattle.channel_sequence.specs.Sequences as Q
 use Rattle.channel_sequence.specs.SequenceReader.{sequence}
@@ -41,6 +45,7 @@ use Rattle.report.specs.Marks.{firstMark, standsAt}
 use Rattle.report.specs.Shown.{Shows}
 use Rattle.wire.proofs as wire
 use Rattle.wire.proofs.refusal.Refusal as refusals
+use Rattle.text.proofs as text
 use Rattle.channel_sequence.proofs.channel.ChannelEncoding as encodings
 use Rattle.channel_sequence.proofs.channel.LegacyFlags as flags
 use Rattle.channel_sequence.proofs.channel.Channel as channels
@@ -89,6 +94,19 @@ pub record EveryCall : Type 2 where
       (λ κs a r e. saidSize r ≡ within (a .0) (saidSize (a .1 .0)))
   pub refusal-number : Call refusals.number.Symbol.routine refusals.number.ended
       (λ κs a r e. r ≡ numberOf (a .0))
+  -- text: decimal and hex, put down and taken from a word
+  pub text-put-decimal : Call text.put_decimal.Symbol.routine text.put_decimal.ended
+      (λ κs a r e. Put (now (a .0)) (a .1 .0) (decimal (a .1 .1 .0)) r (now (e .0)))
+  pub text-put-hex : Call text.put_hex.Symbol.routine text.put_hex.ended
+      (λ κs a r e. Put (now (a .0)) (a .1 .0) (hex (now (a .1 .1 .0))) r (now (e .0)))
+  pub text-decimal-of : Call text.decimal_of.Symbol.routine text.decimal_of.ended
+      (λ κs a r e. saidDecimal r ≡ decimalOf (now (a .0)))
+  pub text-hex-into : Call text.hex_into.Symbol.routine text.hex_into.ended
+      (λ κs a r e. PutSaid (now (a .0)) (a .1 .0) (hexOf (now (a .1 .1 .0))) r (now (e .0)))
+  pub text-repeat-into : Call text.repeat_into.Symbol.routine text.repeat_into.ended
+      (λ κs a r e. PutSaid (now (a .0)) (a .1 .0) (says (replicate (a .1 .1 .1 .0) (a .1 .1 .0))) r (now (e .0)))
+  pub text-same : Call text.same.Symbol.routine text.same.ended
+      (λ κs a r e. TellsSame (now (a .0)) (now (a .1 .0)) r)
   -- channel encodings, legacy flags and the corrected channel
   pub encoding-from-bits : Call encodings.from_bits.Symbol.routine encodings.from_bits.ended
       (λ κs a r e. saidEncoding r ≡ encodingOf (a .0))
@@ -209,6 +227,12 @@ every-call =
       put-slice = λ M. wire.put_slice.Met.met;
       within = λ M. wire.within.Met.met;
       refusal-number = λ M. refusals.number.Met.met;
+      text-put-decimal = λ M. text.put_decimal.Met.met;
+      text-put-hex = λ M. text.put_hex.Met.met;
+      text-decimal-of = λ M. text.decimal_of.Met.met;
+      text-hex-into = λ M. text.hex_into.Met.met;
+      text-repeat-into = λ M. text.repeat_into.Met.met;
+      text-same = λ M. text.same.Met.met;
       encoding-from-bits = λ M. encodings.from_bits.Met.met;
       encoding-entry-size = λ M. encodings.entry_size.Met.met;
       encoding-size = λ M. encodings.size.Met.met;

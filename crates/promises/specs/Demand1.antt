@@ -2,7 +2,7 @@
 -- `proofs/`, since it names the code; this is what is said of refusals.
 use Prim.Native.Nat.{ℕ, _≤_}
 use mathlib.Core.Path.{_≡_}
-use mathlib.Core.Bool.{false}
+use mathlib.Core.Bool.{Bool, false}
 use mathlib.Core.List.{List}
 use Rattle.wire.specs.declared.refusal.Refusal.{Refusal}
 use Rattle.wire.specs.Refusals.{numberOf}
@@ -12,6 +12,10 @@ use Rattle.wire.specs.Addresses.{zeroAddress}
 use Rattle.wire.specs.Writing.{fits, Put, Wrote}
 use Rattle.wire.specs.Said.{saidU8, saidU16, saidU32, saidAddress, saidPlace, saidSize}
 use Rattle.wire.specs.Outcomes.{outcomeU8, outcomeU16, outcomeU32, outcomeAddress, resultPlace, resultSize}
+use Rattle.text.specs.declared.hex.HexBytes.{HexBytes}
+use Rattle.text.specs.Words.{Said}
+use Rattle.text.specs.Said.{saidDecimal}
+use Rattle.text.specs.Into.{PutSaid, TellsSame}
 use Rattle.channel_sequence.specs.declared.channel.ChannelEncoding.the-variants.{Simple}
 use Rattle.channel_sequence.specs.Sequences.{zeroSequence}
 use Rattle.channel_sequence.specs.Said.{saidEncoding, saidCorrected, saidConsistent, sequenceRead, sequenceFixed}
@@ -55,9 +59,12 @@ pub record Demand1 : Type 0 where
   pub synchronization : HeldBeside synchronizationRead refused outcomeSynchronization (refusedOutcome zeroSynchronization) (λ r. r .parameters) zeroSynchronization
   pub frame : Answering saidFrame refused outcomeFrame (refusedOutcome zeroFrame)
   pub delta : Answering saidDelta refusal resultDelta (refusedResult 0)
-  -- the end report and the search refuse nothing
+  -- the end report, the search and the reading of a word refuse nothing
   pub end : Once saidEnd
   pub found : Once saidFoundDataPath
+  pub decimal : Once saidDecimal
+  pub put-said : (s : List ℕ) (at : ℕ) (word : Said (List ℕ)) (a b : HexBytes) (t u : List ℕ) → PutSaid s at word a t → PutSaid s at word b u → (a ≡ b) × (t ≡ u)
+  pub same : (xs ys : List ℕ) (a b : Bool) → TellsSame xs ys a → TellsSame xs ys b → a ≡ b
   -- only one answer of a writer, and one buffer afterwards, meet its statement
   pub wrote : (s : List ℕ) (bytes : Answer (List ℕ)) (said other : Answer ℕ) (after last : List ℕ)
       → Wrote s bytes said after → Wrote s bytes other last → (said ≡ other) × (after ≡ last)
