@@ -15,7 +15,7 @@ use Rattle.wire.specs.declared.refusal.Refusal.{Refusal}
 use Rattle.wire.specs.Reading.{Reading, Reader, read, refused}
 use Rattle.tlvs.specs.declared.item.Item.{Item}
 use Rattle.tlvs.specs.declared.item.Step.{Step}
-use Rattle.tlvs.specs.Items.{stepAt, valueOf}
+use Rattle.tlvs.specs.Items.{stepAt, valueOf, stepValue, valueAt}
 use Rattle.tlvs.specs.Walk.{Ending, Walk, GivesItems, endsWhole, endsCut, givesItem}
 use Rattle.tlvs.specs.Search.{Match, kept, matched, accepted, allFrom, allOf, Search, found, nothing, behindItem, firstOf, nextFrom, GivesRecords, endsSearch, givesRecord}
 use Rattle.tlvs.proofs.item.Step as S
@@ -28,6 +28,11 @@ step-behind s at p q = let w = step-stands s at (sym p ∙ q) in omega arith
 
 pub step-less : (s : List ℕ) (at : ℕ) {f : Step} {it : Item} {next : ℕ} → f ≡ stepAt s at → f ≡ Step.Item it next → length s - next < length s - at
 step-less s at p q = let w = step-stands s at (sym p ∙ q) in omega arith
+
+-- and what stands at the place has the item's value
+pub value-here : (s : List ℕ) (at : ℕ) {f : Step} {it : Item} {next : ℕ} {value : List ℕ} → value ≡ valueAt s at → f ≡ stepAt s at → f ≡ Step.Item it next
+    → value ≡ valueOf s it
+value-here s at v p q = v ∙ ap (stepValue s) (sym p ∙ q)
 
 -- a step that ends the walk, by the position of its case
 abbrev pub Last : Step → Type 0

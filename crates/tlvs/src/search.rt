@@ -4,7 +4,7 @@ ghost use Rattle.tlvs.specs.Said.{saidFoundDataPath, synchronizationFoun
 use crate::item::Item;
 use crate::item::Step;
 use crate::walk::step;
-use crate::walk::value;
+use crate::walk::value_at;
 use data_path_state::DataPathStateTLV;
 use data_path_state::ReadDataPathState;
 use synchronization_parameters::SynchronizationParametersTLV;
@@ -37,14 +37,16 @@ pub fn next_data_path(tail: &[u8], from: usize) -> FoundDataPath
 {
     let mut at = from;
     loop {
-        let Step::Item(item, behind_item) = step(tail, at) else {
+        let found = step(tail, at);
+        let Step::Item(item, behind_item) = found else {
             return FoundDataPath::Nothing;
         };
+        let value = value_at(tail, at, found);
         at = behind_item;
         if item.tlv_type != DataPathStateTLV::TLV_TYPE {
             continue;
         }
-        let ReadDataPathState::Read(record, _) = DataPathStateTLV::read(value(tail, item)) else {
+        let ReadDataPathState::Read(record, _) = DataPathStateTLV::read(value) else {
             continue;
         };
         return FoundDataPath::Found(record, item, behind_item);
@@ -57,8 +59,8 @@ pub fn first_data_path(tail: &[u8]) -> FoundDataPath
     next_data_path(tail, 0)
 }
 
-// The answer of a search that has come to its end. The reader gives the zero record where it refuses, as it does a value of
-// no bytes.
+// The answer of a search that has come to its end. The reader gives the zero record where it refuses, and it refuses a value
+// of no bytes.
 fn no_synchronization() -> FoundSynchronization
     ensures { λ r. ⌜ r ≡ synchronizationFound Search.nothing ⌝ }
 {
@@ -75,14 +77,16 @@ pub fn next_synchronization(tail: &[u8], from: usize) -> FoundSynchronization
 {
     let mut at = from;
     loop {
-        let Step::Item(item, behind_item) = step(tail, at) else {
+        let found = step(tail, at);
+        let Step::Item(item, behind_item) = found else {
             return no_synchronization();
         };
+        let value = value_at(tail, at, found);
         at = behind_item;
         if item.tlv_type != SynchronizationParametersTLV::TLV_TYPE {
             continue;
         }
-        let read = SynchronizationParametersTLV::read(value(tail, item));
+        let read = SynchronizationParametersTLV::read(value);
         let answer = read.answer;
         let Place::At(_) = answer else {
             continue;

@@ -62,7 +62,7 @@ pub fn value(tail: &[u8], item: Item) -> &[u8]
 }
 
 // What stands at a place has a value where it is an item. The step was found there, so that the part needs no test.
-fn value_at<'a>(tail: &'a [u8], at: usize, step: Step) -> &'a [u8]
+pub(crate) fn value_at<'a>(tail: &'a [u8], at: usize, step: Step) -> &'a [u8]
     requires { ⌜ step ≡ stepAt (now tail) at ⌝ }
     ensures { λ r. ⌜ (now r ≡ valueAt (now (tail .entry)) at) × (r .ptr ≡ partAt (valueStartAt (now (tail .entry)) at) (tail .entry .ptr)) ⌝ }
 {
