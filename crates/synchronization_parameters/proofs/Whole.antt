@@ -3,7 +3,9 @@
 use Prim.Native.Nat.{ℕ, _+_, _*_, _≤_, _<_}
 use native.Mathlib.Nat.{add-zero}
 use native.Mathlib.Omega.{arith}
-use mathlib.Core.Path.{_≡_, subst}
+use native.Mathlib.Decide.{decLe}
+use mathlib.Core.Logic.{dite}
+use mathlib.Core.Path.{_≡_, sym, ap, subst, _∙_}
 use mathlib.Core.Bool.{true}
 use mathlib.Core.List.{List, [], _∷_, _++_}
 use lib.Dec.{leb}
@@ -12,9 +14,10 @@ use lib.Seq.{take-append-seam}
 use borrow.Author.Tests.{le-leb, leb-true}
 use Rattle.wire.specs.declared.refusal.Refusal.the-variants.{Short}
 use Rattle.wire.specs.Reading.{read, refused}
+use Rattle.wire.specs.Answer.{answer, refusal, placeOf}
 use Rattle.wire.proofs.Bytes.{from, opened}
 use Rattle.wire.proofs.Lawful.{Lawful, cut-short}
-use Rattle.wire.proofs.Fixed.{FixedWidths, give-fixed, field-fixed, bind-fixed, number-fixed, address-fixed}
+use Rattle.wire.proofs.Fixed.{past, FixedWidths, give-fixed, field-fixed, bind-fixed, number-fixed, address-fixed}
 use Rattle.synchronization_parameters.specs.declared.synchronization_parameters_tlv.SynchronizationParametersTLV.{SynchronizationParametersTLV}
 use Rattle.synchronization_parameters.specs.SynchronizationReader.{synchronization}
 
@@ -81,3 +84,13 @@ short s h =
     let more : List ℕ = replicate 33 0 in
     rw (take-append-seam s more) at
     (cut-short synchronization-lawful (s ++ more) (all-fields (s ++ more) (simp length-append (omega arith))) h)
+
+-- in a value that is too short there is one field more, as long as none was refused
+pub field-left : (s : List ℕ) → length s < 33 → (i at : ℕ) → i ≤ 18 → past widths s 0 ≡ past (drop i widths) s at → i < 18
+field-left s h i at most left =
+    dite (decLe 18 i)
+    (λ all.
+    let last : i ≡ 18 = omega arith in
+    let none : refusal Short ≡ answer at = sym (ap placeOf (short s h)) ∙ synchronization-fixed .place s 0 ∙ left ∙ rw last in
+    let z : _≡_ {A = ℕ} 0 1 = cc in absurd (omega arith))
+    (λ more. omega arith)

@@ -1,9 +1,9 @@
 ghost use mathlib.Core.Path.{_≡_};
-ghost use Prim.Native.Nat.{_+_, _*_, _≤_};
+ghost use Prim.Native.Nat.{_+_, _*_, _≤_, _<_};
 ghost use lib.ListN.{length, getD};
 ghost use Rattle.wire.specs.Reading as Reading;
-ghost use Rattle.wire.specs.Answer.{answer, placeOf};
-ghost use Rattle.wire.specs.Said.{saidPlace, saidSize};
+ghost use Rattle.wire.specs.Answer.{answer};
+ghost use Rattle.wire.specs.Said.{saidSize};
 ghost use Rattle.wire.specs.Writing.{Put, Wrote};
 ghost use Rattle.synchronization_parameters.specs.SynchronizationReader.{synchronization, zeroSynchronization};
 ghost use Rattle.synchronization_parameters.specs.SynchronizationBytes.{bytesOf};
@@ -11,6 +11,7 @@ ghost use Rattle.synchronization_parameters.specs.Said.{synchronizationR
 use wire::AWDLTLVType;
 use wire::MACAddress;
 use wire::Place;
+use wire::Refusal;
 use wire::Size;
 
 // The fixed part of the value. What stands behind it in the value is no part of the record.
@@ -57,7 +58,7 @@ impl SynchronizationParametersTLV {
         // Only where not all bytes are there, the field that is short is looked for.
         if s.len() < SynchronizationParametersTLV::MIN_SIZE {
             return ReadSynchronization {
-                answer: behind_fields(s),
+                answer: Place::Refused(short_field(s)),
                 parameters: no_parameters(),
             };
         }
@@ -109,22 +110,23 @@ fn no_parameters() -> SynchronizationParametersTLV
     }
 }
 
-// The place behind the last field. The first field that does not fit is the one that is refused.
-fn behind_fields(s: &[u8]) -> Place
-    ensures { λ r. ⌜ saidPlace r ≡ placeOf (synchronization (now (s .entry)) 0) ⌝ }
+// Why a value that is too short is refused: for the first field that does not fit.
+fn short_field(s: &[u8]) -> Refusal
+    requires { ⌜ length (now s) < 33 ⌝ }
+    ensures { λ r. ⌜ synchronization (now (s .entry)) 0 ≡ Reading.refused r ⌝ }
 {
     let widths = WIDTHS;
     let mut at = 0;
     let mut i = 0;
-    while i < 18 {
-        let found = wire::field_at(s, at, widths[i]);
-        let Place::At(next) = found else {
-            return found;
-        };
-        at = next;
-        i += 1;
+    loop {
+        match wire::field_at(s, at, widths[i]) {
+            Place::At(behind_field) => {
+                at = behind_field;
+                i += 1;
+            }
+            Place::Refused(why) => return why,
+        }
     }
-    Place::At(at)
 }
 
 // The fields at their places in a value that has them all.
