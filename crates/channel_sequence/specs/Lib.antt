@@ -1,5 +1,5 @@
 -- Channels: encodings, flags and the corrected channel; Sequences: the sixteen entries; SequenceReader: how they are
--- read; Widths: the bounds of its fields; Rewritten: what of the bytes comes back; Said and Outcomes: what
+-- read; Widths: the bounds of a sequence's fields; Rewritten: what of the bytes comes back; Said and Outcomes: what
 -- each answer of the code says, and the number and values that it stands for.
 pub mod Channels
 pub mod Sequences

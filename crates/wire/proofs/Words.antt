@@ -8,7 +8,14 @@ use mathlib.Core.Bool.{Bool, true, false, cond}
 use mathlib.Core.List.{List, [], _∷_, _++_}
 use lib.Bits.{bitAnd, and-block, and-mask, and-zero-r}
 use lib.Pow.{pow-pos, split, high, low, ones-lt, shl-shr, shr-shr}
-use Rattle.wire.specs.Words.{Run, keep, clear, put, wordBy, maskOf}
+use Rattle.wire.specs.Words.{Run, keep, clear, put, wordBy}
+
+-- the mask of the bits that stay
+abbrev pub maskOf : List Run → ℕ
+maskOf [] = 0
+maskOf (keep n ∷ rest) = maskOf rest * 2 ^ n + (2 ^ n - 1)
+maskOf (clear n ∷ rest) = maskOf rest * 2 ^ n
+maskOf (put b ∷ rest) = maskOf rest * 2 ^ 1
 
 -- what the bits that are given add to a word
 abbrev pub addedBy : List Run → ℕ

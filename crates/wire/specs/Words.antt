@@ -1,5 +1,5 @@
 -- Words made of runs of bits, from the lowest bit on.
-use Prim.Native.Nat.{ℕ, _+_, _-_, _*_, _/_, _%_, _^_}
+use Prim.Native.Nat.{ℕ, _+_, _*_, _/_, _%_, _^_}
 use mathlib.Core.Bool.{Bool, cond}
 use mathlib.Core.List.{List, [], _∷_}
 
@@ -15,10 +15,3 @@ wordBy [] w = 0
 wordBy (keep n ∷ rest) w = wordBy rest (w / 2 ^ n) * 2 ^ n + w % 2 ^ n
 wordBy (clear n ∷ rest) w = wordBy rest (w / 2 ^ n) * 2 ^ n
 wordBy (put b ∷ rest) w = wordBy rest (w / 2 ^ 1) * 2 ^ 1 + cond b 1 0
-
--- the mask of the bits that stay
-abbrev pub maskOf : List Run → ℕ
-maskOf [] = 0
-maskOf (keep n ∷ rest) = maskOf rest * 2 ^ n + (2 ^ n - 1)
-maskOf (clear n ∷ rest) = maskOf rest * 2 ^ n
-maskOf (put b ∷ rest) = maskOf rest * 2 ^ 1

@@ -24,7 +24,7 @@ pub record Put (s : List ℕ) (at : ℕ) (bytes : List ℕ) (next : ℕ) (after 
   pub place : next ≡ placeBehind s at bytes
   pub buffer : after ≡ putting s at bytes
 
--- bytes that are put run after run: that there is room is asked once, of all of them
+-- bytes that are put part after part: that there is room is asked once, of all of them
 abbrev pub PutIfRoom : List ℕ → ℕ → List ℕ → ℕ → List ℕ → Type 0
 PutIfRoom s at bytes next after = at + length bytes ≤ length s → Put s at bytes next after
 
