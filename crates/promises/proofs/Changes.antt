@@ -95,7 +95,7 @@ data-paths-kept = changes-keep 0x0C dataPath (λ it u. u .no-data-path) stays
 
 -- items that can be written still can be
 change-fits : {items changed : List Sent} → Change items changed → AllSendable items → AllSendable changed
-change-fits (insert it u) ok = (record { byte = u .byte; short = u .short }, ok)
+change-fits (insert it u) ok = (u .sendable, ok)
 change-fits (grow it bytes a h) ok = (record { byte = ok .0 .byte; short = h }, ok .1)
 change-fits (further it c) ok = (ok .0, change-fits c (ok .1))
 

@@ -1,13 +1,15 @@
 -- What was written of a consistent record is read back, what was read is written again, and a caller who goes on to the end is given all there is: each crate's own laws say so.
 -- Assumes nothing.
+use mathlib.Core.Path.{refl, sym}
 use Rattle.channel_sequence.proofs.Flags.{kept-mask}
 use Rattle.channel_sequence.proofs.ReadConsistent as Q
 use Rattle.channel_sequence.proofs.Again as Q′
+use Rattle.data_path_fields.proofs.OneBit.{has-bit}
 use Rattle.data_path_state.proofs.Sizes.{size-range}
 use Rattle.data_path_state.proofs.Masks.{kept-extended-mask, kept-options-mask}
 use Rattle.data_path_state.proofs.ReadConsistent as D
 use Rattle.data_path_state.proofs.Again as D′
-use Rattle.data_path_state.proofs.FromBytes.{read-exactly}
+use Rattle.data_path_state.proofs.FromBytes.{read-ranges, read-exactly}
 use Rattle.data_path_state.proofs.Mending.{mended-consistent, mended-same}
 use Rattle.synchronization_parameters.proofs.Again as S
 use Rattle.tlvs.proofs.Walks.{gives-walk, gives-walk-once}
@@ -29,8 +31,11 @@ demand2 =
       extended-mask = kept-extended-mask;
       options-mask = kept-options-mask;
       legacy-mask = kept-mask;
+      presence = λ k w. sym (has-bit k w refl);
       sequences-consistent = λ encoding s at e. Q.read-consistent encoding s at e;
       data-paths-consistent = λ s at e. D.read-consistent s at e;
+      data-paths-in-width = λ s b at e. read-ranges s b at e;
+      synchronizations-in-width = λ s b at e. S.read-in-width s b at e;
       headers-consistent = λ s b at e. F.read-in-width s b at e;
       sequences-again = λ encoding s at e. Q′.written-again encoding s at e;
       data-paths-again = λ s b at e. D′.written-again s b at e;

@@ -10,6 +10,7 @@ use lib.ListN.{length}
 use Rattle.wire.specs.Reading.{Reader, read}
 use Rattle.wire.specs.FromBytes.{ReadFromBytes}
 use Rattle.wire.specs.Answer.{answer}
+use Rattle.wire.specs.Numbers.{AllInWidth, bit}
 use Rattle.wire.specs.Words.{wordBy}
 use Rattle.channel_sequence.specs.declared.channel_sequence.ChannelSequence.{ChannelSequence}
 use Rattle.channel_sequence.specs.Channels.{keptFlags}
@@ -17,7 +18,7 @@ use Rattle.channel_sequence.specs.Sequences as Q
 use Rattle.channel_sequence.specs.SequenceReader.{sequence}
 use Rattle.channel_sequence.specs.Widths.{SequenceInWidth}
 use Rattle.channel_sequence.specs.Rewritten as Q′
-use Rattle.data_path_fields.specs.Words.{extendedKept, optionsKept}
+use Rattle.data_path_fields.specs.Words.{hasAny, extendedKept, optionsKept}
 use Rattle.data_path_state.specs.declared.data_path_state_tlv.DataPathStateTLV.{DataPathStateTLV}
 use Rattle.data_path_state.specs.DataPath.{dataPath}
 use Rattle.data_path_state.specs.Ranges.{Ranges}
@@ -27,7 +28,7 @@ use Rattle.data_path_state.specs.Mended.{mended}
 use Rattle.data_path_state.specs.Rewritten as D
 use Rattle.synchronization_parameters.specs.declared.synchronization_parameters_tlv.SynchronizationParametersTLV.{SynchronizationParametersTLV}
 use Rattle.synchronization_parameters.specs.SynchronizationReader.{synchronization}
-use Rattle.synchronization_parameters.specs.SynchronizationBytes.{bytesOf}
+use Rattle.synchronization_parameters.specs.SynchronizationBytes.{bytesOf, numbers}
 use Rattle.synchronization_parameters.specs.Rewritten as S
 use Rattle.tlvs.specs.declared.item.Item.{Item}
 use Rattle.tlvs.specs.Walk.{Ending, whole, walk, GivesItems}
@@ -54,10 +55,16 @@ pub record Demand2 : Type 1 where
   pub extended-mask : (w : ℕ) → wordBy extendedKept w ≡ bitAnd w 0xFF7F
   pub options-mask : (w : ℕ) → wordBy optionsKept w ≡ bitAnd w 0xFFFFFE6A
   pub legacy-mask : (w : ℕ) → keptFlags w ≡ bitAnd w 0x3F
-  -- what was read is consistent, so that it can be written again; a header needs only to be within its widths
+  -- a word has a bit where it has one of the bits of the mask that is that bit alone
+  pub presence : (k w : ℕ) → hasAny w (2 ^ k) ≡ bit k w
+  -- what was read is consistent and, of bytes, within its widths, so that it can be written again and read back; a header and a
+  -- synchronization record need only be within their widths
   pub sequences-consistent : (encoding : ℕ) (s : List ℕ) (at : ℕ) {next : ℕ} {q : ChannelSequence} → sequence encoding s at ≡ read q next
       → (q .encoding ≡ encoding) × (length (q .bytes) ≡ 32) × (Q.consistent q ≡ answer true)
   pub data-paths-consistent : (s : List ℕ) (at : ℕ) {next : ℕ} {r : DataPathStateTLV} → dataPath s at ≡ read r next → consistent r ≡ true
+  pub data-paths-in-width : (s : List ℕ) → Bytes s → (at : ℕ) {next : ℕ} {r : DataPathStateTLV} → dataPath s at ≡ read r next → Ranges r
+  pub synchronizations-in-width : (s : List ℕ) → Bytes s → (at : ℕ) {next : ℕ} {p : SynchronizationParametersTLV} → synchronization s at ≡ read p next
+      → AllInWidth (numbers p)
   pub headers-consistent : (s : List ℕ) → Bytes s → (at : ℕ) {next : ℕ} {f : AWDLActionFrame} → header s at ≡ read f next → InWidth f
   -- what was read and is written again gives the bytes that `rewritten` says: its own, but for what is dropped
   pub sequences-again : (encoding : ℕ) (s : List ℕ) (at : ℕ) {next : ℕ} {q : ChannelSequence} → sequence encoding s at ≡ read q next

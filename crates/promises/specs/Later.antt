@@ -1,6 +1,6 @@
 -- A later sender's frame: how it comes from a frame, and what a receiver has of either.
 use mathlib.Core.Path.{_≡_}
-use Prim.Native.Nat.{ℕ, _≤_, _<_}
+use Prim.Native.Nat.{ℕ, _≤_}
 use mathlib.Core.List.{List, _∷_, _++_, map}
 use lib.ListN.{length, take}
 use Rattle.wire.specs.Reading.{Reading, Reader, read}
@@ -10,17 +10,16 @@ use Rattle.synchronization_parameters.specs.declared.synchronization_parameters
 use Rattle.synchronization_parameters.specs.SynchronizationReader.{synchronization}
 use Rattle.tlvs.specs.Walk.{whole, walk}
 use Rattle.tlvs.specs.Search.{allOf}
-use Rattle.tlvs.specs.Sent.{Sent, sentIn, tailWith}
+use Rattle.tlvs.specs.Sent.{Sendable, Sent, sentIn, tailWith}
 use Rattle.action_frame.specs.declared.AWDLActionFrame.{AWDLActionFrame}
 use Rattle.action_frame.specs.Frames.{header, tailOf}
 use Rattle.promises.specs.Formats.{Bytes}
 
--- an item of a type that we do not read; its length can be said
+-- an item that can be sent, of a type that we do not read
 pub record Unread (it : Sent) : Type 0 where
-  pub byte : it .type < 256
+  pub sendable : Sendable it
   pub no-synchronization : ¬ (it .type ≡ 0x04)
   pub no-data-path : ¬ (it .type ≡ 0x0C)
-  pub short : length (it .value) ≤ 65535
 
 -- an item of a type that we read, whose value its reader accepts
 pub data AcceptedValue (it : Sent) : Type 0 where

@@ -1,6 +1,6 @@
--- A record that was read, written again, gives the bytes that `rewritten` says: each number gives back the bytes that it was read of.
+-- A record that was read, written again, gives the bytes that `rewritten` says, and its numbers are within their widths: each number gives back the bytes that it was read of.
 -- Assumes nothing.
-use Prim.Native.Nat.{ℕ, _+_, _*_, _/_, _%_, _≤_, _<_}
+use Prim.Native.Nat.{ℕ, _+_, _*_, _/_, _%_, _^_, _≤_, _<_}
 use native.Mathlib.Nat.{add-zero}
 use native.Mathlib.Omega.{arith}
 use native.Mathlib.Decide.{decLe}
@@ -9,11 +9,15 @@ use mathlib.Core.Path.{_≡_, sym, subst, _∙_}
 use mathlib.Core.List.{List, _++_}
 use lib.ListN.{length, getD, drop}
 use Rattle.wire.specs.Reading.{read}
+use Rattle.wire.specs.Numbers.{AllInWidth, none, one}
+use Rattle.wire.specs.Addresses.{address}
 use Rattle.wire.proofs.Bytes.{from, opened}
 use Rattle.wire.proofs.Lawful.{never}
+use Rattle.wire.proofs.Gives.{Gives, gives-any, gives-give, gives-bind}
+use Rattle.wire.proofs.Octets.{Octets, gives-field, gives-number}
 use Rattle.synchronization_parameters.specs.declared.synchronization_parameters_tlv.SynchronizationParametersTLV.{SynchronizationParametersTLV}
 use Rattle.synchronization_parameters.specs.SynchronizationReader.{synchronization}
-use Rattle.synchronization_parameters.specs.SynchronizationBytes.{bytesOf}
+use Rattle.synchronization_parameters.specs.SynchronizationBytes.{bytesOf, numbers}
 use Rattle.synchronization_parameters.specs.Rewritten.{rewritten}
 use Rattle.synchronization_parameters.proofs.Whole.{fieldsOf, inside, all-fields, short}
 
@@ -44,3 +48,21 @@ written-again s small {p} {size} e =
     let all : 33 ≡ size = let w = all-fields s here in cc in
     rw (← same, ← all) (again s small here))
     (λ past. absurd (never (sym (short s (omega arith)) ∙ e)))
+
+-- the numbers that were read of bytes are within their widths
+in-width : {s : List ℕ} → Octets s → Gives s synchronization (λ p. AllInWidth (numbers p))
+unfolding synchronization
+in-width p =
+    gives-bind (gives-number p 1) λ _ a. gives-bind (gives-number p 2) λ _ b. gives-bind (gives-number p 1) λ _ c. gives-bind (gives-number p 1) λ _ d.
+    gives-bind (gives-number p 2) λ _ e. gives-bind (gives-number p 2) λ _ f. gives-bind (gives-number p 2) λ _ g.
+    gives-bind (gives-number p 2) λ _ h. gives-bind (gives-number p 2) λ _ i. gives-bind (gives-number p 2) λ _ j.
+    gives-bind (gives-number p 1) λ _ k. gives-bind (gives-number p 1) λ _ l. gives-bind (gives-number p 1) λ _ m. gives-bind (gives-number p 1) λ _ n.
+    gives-bind (gives-any address) λ _ _.
+    gives-bind {Q = λ v. v < 256 ^ 1} (gives-bind (gives-field p 2) λ bytes q. gives-give _ (q .octets .small 0)) λ _ o.
+    gives-bind (gives-number p 2) λ _ t. gives-bind (gives-number p 2) λ _ u.
+    gives-give _
+    (one a (one b (one c (one d (one e (one f (one g (one h (one i (one j (one k (one l (one m (one n (one o (one t (one u none)))))))))))))))))
+
+pub read-in-width : (s : List ℕ) → ((i : ℕ) → getD s i 0 < 256) → (at : ℕ) {next : ℕ} {p : SynchronizationParametersTLV} → synchronization s at ≡ read p next
+    → AllInWidth (numbers p)
+read-in-width s small at e = in-width {s = s} (record { small = small }) .of {at = at} e

@@ -31,7 +31,7 @@ loop-again c =
     let loop = call .before .loop in
     let given = told saidPlace (call .field-at .ensures) (c .before .behind-field .given .1) in
     let left : past widths s 0 ≡ past (drop (loop .i + 1) widths) s (c .before .behind-field .given .0 .0) =
-        loop .inv .1 ∙ past-step widths s (loop .at) (loop .i) (loop .inv .0) ∙ rw given in
+    loop .inv .1 ∙ past-step widths s (loop .at) (loop .i) (loop .inv .0) ∙ rw given in
     (field-left s (start .pre) (loop .i + 1) _ (omega arith) left, left)
 
 returns : tie.Need-returns Inv-loop μ-loop
@@ -43,7 +43,7 @@ returns c =
     let none = short s (start .pre) in
     let refused = told saidPlace (call .field-at .ensures) (c .before .why .given .1) in
     let place : refusal Short ≡ refusal (c .before .why .given .0 .0) =
-        sym (ap placeOf none) ∙ synchronization-fixed .place s 0 ∙ loop .inv .1 ∙ past-step widths s (loop .at) (loop .i) (loop .inv .0) ∙ rw refused in
+    sym (ap placeOf none) ∙ synchronization-fixed .place s 0 ∙ loop .inv .1 ∙ past-step widths s (loop .at) (loop .i) (loop .inv .0) ∙ rw refused in
     cc
 
 pub short-field-spec : {M : Type 1} → statement M
