@@ -1,16 +1,16 @@
 -- A record that was read of bytes, written again, gives the bytes that `rewritten` says: the two readers go side by side, field by field.
 -- Assumes nothing.
-use Prim.Native.Nat.{ℕ, _+_, _*_, _/_, _%_, _^_, _<_}
+use Prim.Native.Nat.{ℕ, suc, _+_, _*_, _/_, _%_, _^_, _<_}
 use native.Mathlib.Omega.{arith}
-use mathlib.Core.Path.{_≡_, refl, ap, subst}
-use mathlib.Core.Bool.{Bool, true, false, cond, _||_}
+use mathlib.Core.Path.{_≡_, refl, ap, subst, _∙_}
+use mathlib.Core.Bool.{Bool, true, false, cond}
 use mathlib.Core.List.{List, [], _∷_, _++_, append-assoc}
+use lib.Bits.{bitAnd, and-block, and-mask, and-le-r}
 use lib.Dec.{eqb}
 use lib.ListN.{getD, take}
 use borrow.Author.Tests.{eqb-true}
 use Rattle.wire.specs.declared.refusal.Refusal.the-variants.{UnicastLength}
 use Rattle.wire.specs.Reading.{Reader, read, field, give, refuse, when, _>>=_}
-use Rattle.wire.specs.Answer.{require, asked}
 use Rattle.wire.specs.Numbers.{little, littleBytes, number, bit, bits}
 use Rattle.wire.specs.Words.{wordBy}
 use Rattle.wire.proofs.Lawful.{never}
@@ -25,7 +25,8 @@ use Rattle.data_path_fields.specs.Fields.{noUnicast, unicast, triggerId, stats,
 use Rattle.data_path_state.specs.declared.data_path_state_tlv.DataPathStateTLV.{DataPathStateTLV}
 use Rattle.data_path_state.specs.DataPath.{dataPath}
 use Rattle.data_path_state.specs.Bytes.{countryBytes, channelBytes, infraBytes, oneAddressBytes, wordBytes, triggerIdBytes, statsBytes, recordBytes}
-use Rattle.data_path_state.specs.Rewritten.{countryAgain, channelByte, channelAgain, unicastAgain, extendedAgain, rewritten}
+use Rattle.data_path_state.specs.Rewritten.{countryAgain, channelByte, channelAgain, optionsAgain, unicastAgain, wordAgain, extendedAgain, rewritten}
+use Rattle.data_path_state.proofs.Masks.{kept-extended-mask, kept-options-mask}
 
 low-byte : (n low : ℕ) → n ≡ low → low < 256 → littleBytes 2 n ≡ low ∷ 0 ∷ []
 low-byte n low e h =
@@ -50,6 +51,41 @@ channel-bytes word p =
     subst (λ (b : List ℕ). littleBytes 2 (wordOf (channelOf (little b))) ≡ channelByte (getD b 0 0) ∷ 0 ∷ []) (by-place 2 word (p .size))
     (channel-word (getD word 0 0) (little (getD word 1 0 ∷ [])) (p .octets .small 0))
 
+-- a mask goes byte by byte, from the lowest on
+masked : (n b w m mask : ℕ) {rest : List ℕ} → b < 256 → m < 256 → littleBytes n (bitAnd w mask) ≡ rest
+    → littleBytes (suc n) (bitAnd (b + 256 * w) (m + 256 * mask)) ≡ bitAnd b m ∷ rest
+masked n b w m mask small h e =
+    let word : b + 256 * w ≡ w * 2 ^ 8 + b = omega arith in
+    let masks : m + 256 * mask ≡ mask * 2 ^ 8 + m = omega arith in
+    let below = and-le-r b m in
+    let low : (bitAnd w mask * 2 ^ 8 + bitAnd b m) % 256 ≡ bitAnd b m = omega arith in
+    let high : (bitAnd w mask * 2 ^ 8 + bitAnd b m) / 256 ≡ bitAnd w mask = omega arith in
+    rw (word, masks, and-block 8 w mask b m small h, low, high, e)
+
+whole : (n b w mask : ℕ) {rest : List ℕ} → b < 256 → littleBytes n (bitAnd w mask) ≡ rest
+    → littleBytes (suc n) (bitAnd (b + 256 * w) (0xFF + 256 * mask)) ≡ b ∷ rest
+whole n b w mask {rest} small e =
+    let same : b % 2 ^ 8 ≡ b = omega arith in
+    masked n b w 0xFF mask small (omega arith) e ∙ ap (λ (x : ℕ). x ∷ rest) (and-mask b 8 ∙ same)
+
+options-bytes : (options : List ℕ) → OctetField 4 options → littleBytes 4 (wordBy optionsKept (little options)) ≡ optionsAgain options
+options-bytes options p =
+    let at : ℕ → ℕ = λ i. getD options i 0 in
+    let small : (i : ℕ) → getD options i 0 < 256 = p .octets .small in
+    subst (λ (b : List ℕ). littleBytes 4 (wordBy optionsKept (little b)) ≡ optionsAgain b) (by-place 4 options (p .size))
+    (ap (littleBytes 4) (kept-options-mask (little (at 0 ∷ at 1 ∷ at 2 ∷ at 3 ∷ [])))
+    ∙ masked 3 (at 0) (little (at 1 ∷ at 2 ∷ at 3 ∷ [])) 0x6A 0xFFFFFE (small 0) (omega arith)
+    (masked 2 (at 1) (little (at 2 ∷ at 3 ∷ [])) 0xFE 0xFFFF (small 1) (omega arith)
+    (whole 1 (at 2) (little (at 3 ∷ [])) 0xFF (small 2) (whole 0 (at 3) 0 0 (small 3) refl))))
+
+word-bytes : (word : List ℕ) → OctetField 2 word → littleBytes 2 (wordBy extendedKept (little word)) ≡ wordAgain word
+word-bytes word p =
+    let at : ℕ → ℕ = λ i. getD word i 0 in
+    let small : (i : ℕ) → getD word i 0 < 256 = p .octets .small in
+    subst (λ (b : List ℕ). littleBytes 2 (wordBy extendedKept (little b)) ≡ wordAgain b) (by-place 2 word (p .size))
+    (ap (littleBytes 2) (kept-extended-mask (little (at 0 ∷ at 1 ∷ [])))
+    ∙ masked 1 (at 0) (little (at 1 ∷ [])) 0x7F 0xFF (small 0) (omega arith) (whole 0 (at 1) 0 0 (small 1) refl))
+
 -- the dropped bit of the extended word announces nothing
 record Announces (w : ℕ) : Type 0 where
   trigger : bits 0 1 (wordBy extendedKept w) ≡ bits 0 1 w
@@ -71,15 +107,18 @@ extendedOut x =
     (littleBytes 2 (x .flags .flags .0) ++ triggerIdBytes (x .trigger) ++ wordBytes (x .rlfc) ++ statsBytes (x .stats))
     []
 
-abbrev keptOptions : List ℕ → List ℕ
-keptOptions options = littleBytes 4 (wordBy optionsKept (little options))
-
 -- what follows the length
-abbrev optionsAgain : List ℕ → Bool → Reader (List ℕ)
-optionsAgain length second = do
+abbrev behindLength : List ℕ → Bool → Reader (List ℕ)
+behindLength length second = do
   options ← field 4
   ext ← when second [] (field 4)
-  give (length ++ keptOptions options ++ ext)
+  give (length ++ optionsAgain options ++ ext)
+
+unicast-bytes : (n : ℕ) {length options : List ℕ} (ext : List ℕ) → littleBytes 2 n ≡ length → OctetField 4 options
+    → littleBytes 2 n ++ littleBytes 4 (wordBy optionsKept (little options)) ++ ext ≡ length ++ optionsAgain options ++ ext
+unicast-bytes n {length} {options} ext e p =
+    ap (λ (b : List ℕ). b ++ littleBytes 4 (wordBy optionsKept (little options)) ++ ext) e
+    ∙ ap (λ (b : List ℕ). length ++ b ++ ext) (options-bytes options p)
 
 -- the addresses are written together
 laid-out : (flags country channel bssid infra awdl unicast extended : List ℕ) {bytes : List ℕ} → flags ≡ bytes
@@ -115,18 +154,18 @@ module _ {s : List ℕ} (octets : Octets s) where
       again-joined _ 4 4 (number-again octets 4) λ aw.
       again-step _ (number-again octets 4) λ pay. again-give refl)
 
-  one-again : (length : List ℕ) → littleBytes 2 4 ≡ length → Again s (optionsAnd false) (optionsAgain length false) unicastOf
-  one-again length e = again-number octets 4 _ λ options p. again-give (ap (λ (b : List ℕ). b ++ keptOptions options ++ []) e)
+  one-again : (length : List ℕ) → littleBytes 2 4 ≡ length → Again s (optionsAnd false) (behindLength length false) unicastOf
+  one-again length e = again-number octets 4 _ λ options p. again-give (unicast-bytes 4 [] e p)
 
-  two-again : (length : List ℕ) → littleBytes 2 8 ≡ length → Again s (optionsAnd true) (optionsAgain length true) unicastOf
+  two-again : (length : List ℕ) → littleBytes 2 8 ≡ length → Again s (optionsAnd true) (behindLength length true) unicastOf
   two-again length e =
       again-number octets 4 _ λ options p.
       again-group (number 4) _ _ (again-step _ (number-again octets 4) λ ext.
-      again-give (ap (λ (b : List ℕ). b ++ keptOptions options ++ littleBytes 4 ext) e))
+      again-give (unicast-bytes 8 (littleBytes 4 ext) e p))
 
   lengths-again : (n : ℕ) (length : List ℕ) → littleBytes 2 n ≡ length → (four eight : Bool) → eqb n 4 ≡ four → eqb n 8 ≡ eight
       → Again s (cond four (optionsAnd false) (cond eight (optionsAnd true) (refuse UnicastLength)))
-      (asked (require (four || eight) UnicastLength) >>= λ allowed. optionsAgain length eight) unicastOf
+      (behindLength length eight) unicastOf
   lengths-again n length e true true p q = let four = eqb-true n 4 p in let eight = eqb-true n 8 q in absurd (omega arith)
   lengths-again n length e true false p q = one-again length (rw (eqb-true n 4 p) at e)
   lengths-again n length e false true p q = two-again length (rw (eqb-true n 8 q) at e)
@@ -143,7 +182,8 @@ module _ {s : List ℕ} (octets : Octets s) where
       rw (a .trigger, a .rlfc, a .stats)
       (again-step _ (again-when (bit 0 (little word)) trigger-again refl) λ trigger.
       again-step _ (again-when (bit 2 (little word)) one-word-again refl) λ rlfc.
-      again-step _ (again-when (bit 5 (little word)) stats-again refl) λ stats. again-give refl)
+      again-step _ (again-when (bit 5 (little word)) stats-again refl) λ stats.
+      again-give (ap (λ (b : List ℕ). b ++ triggerIdBytes trigger ++ wordBytes rlfc ++ statsBytes stats) (word-bytes word p)))
 
   written : Again s dataPath rewritten recordBytes
   unfolding recordBytes

@@ -1,16 +1,13 @@
 -- What of a value comes back when its record is written again: its bytes in their order, each field as it stands. Only the pad byte, what a
 -- channel word carries beside its channel, and the dropped bits of the options and of the extended word come back as 0.
 use Prim.Native.Nat.{ℕ, _%_, _^_}
-use mathlib.Core.Bool.{cond, _||_}
+use mathlib.Core.Bool.{cond}
 use mathlib.Core.List.{List, [], _∷_, _++_}
+use lib.Bits.{bitAnd}
 use lib.Dec.{eqb}
-use lib.ListN.{getD, take}
-use Rattle.wire.specs.declared.refusal.Refusal.the-variants.{UnicastLength}
+use lib.ListN.{getD, take, drop}
 use Rattle.wire.specs.Reading.{Reader, field, give, when, _>>=_}
-use Rattle.wire.specs.Answer.{require, asked}
-use Rattle.wire.specs.Numbers.{little, littleBytes, bit}
-use Rattle.wire.specs.Words.{wordBy}
-use Rattle.data_path_fields.specs.Words.{extendedKept, optionsKept}
+use Rattle.wire.specs.Numbers.{little, bit}
 
 -- bytes that stand where a bit of a word is set
 abbrev pub whereBit : ℕ → List ℕ → Reader (List ℕ) → Reader (List ℕ)
@@ -32,23 +29,29 @@ channelAgain = do
   word ← field 2
   give (channelByte (getD word 0 0) ∷ 0 ∷ [])
 
--- the options without their dropped bits; a second word where the length says so
+-- the options keep 0xFFFFFE6A, lowest byte first
+abbrev pub optionsAgain : List ℕ → List ℕ
+optionsAgain options = bitAnd (getD options 0 0) 0x6A ∷ bitAnd (getD options 1 0) 0xFE ∷ drop 2 options
+
+-- a second word follows the options where the length is 8
 abbrev pub unicastAgain : Reader (List ℕ)
 unicastAgain = do
   length ← field 2
-  allowed ← asked (require (eqb (little length) 4 || eqb (little length) 8) UnicastLength)
   options ← field 4
   second ← when (eqb (little length) 8) [] (field 4)
-  give (length ++ littleBytes 4 (wordBy optionsKept (little options)) ++ second)
+  give (length ++ optionsAgain options ++ second)
 
--- the extended word without its dropped bit, which announces nothing
+-- the extended word keeps 0xFF7F, lowest byte first
+abbrev pub wordAgain : List ℕ → List ℕ
+wordAgain word = bitAnd (getD word 0 0) 0x7F ∷ drop 1 word
+
 abbrev pub extendedAgain : Reader (List ℕ)
 extendedAgain = do
   word ← field 2
   trigger ← whereBit 0 word (field 2)
   rlfc ← whereBit 2 word (field 4)
   stats ← whereBit 5 word (field 12)
-  give (littleBytes 2 (wordBy extendedKept (little word)) ++ trigger ++ rlfc ++ stats)
+  give (wordAgain word ++ trigger ++ rlfc ++ stats)
 
 abbrev pub rewritten : Reader (List ℕ)
 rewritten = do

@@ -11,7 +11,7 @@ use data_path_fields::UnicastOptions;
 use data_path_fields::has;
 use wire::MACAddress;
 
-// The tests below have no branches: each is a formula, as its definition is.
+// Each test below is a formula, as its definition is; only the two kinds of channel are told apart by a branch.
 pub(crate) fn bits_match(r: DataPathStateTLV) -> bool
     ensures { λ t. ⌜ t ≡ (C.flagsMatch r && C.extendedMatch r) ⌝ }
 {

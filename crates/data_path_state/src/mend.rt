@@ -37,7 +37,7 @@ const OTHER_EXTENDED: u16 = DataPathExtendedFlags::KEEP
     - DataPathExtendedFlags::STATS_PRESENT;
 
 // A presence bit: its value where the field is there.
-fn bit(present: bool, value: u16) -> u16
+fn presence_bit(present: bool, value: u16) -> u16
     ensures { λ r. ⌜ r ≡ cond present value 0 ⌝ }
     ensures { λ r. ⌜ r ≤ value ⌝ }
 {
@@ -139,10 +139,16 @@ pub(crate) fn mend_stats(s: OptionalStats) -> OptionalStats
     }
 }
 
+fn has_options(r: DataPathStateTLV) -> bool
+    ensures { λ b. ⌜ b ≡ M.hasOptions r ⌝ }
+{
+    r.unicast_options.present | r.unicast_options_ext.present
+}
+
 pub(crate) fn mend_options(r: DataPathStateTLV) -> OptionalOptions
     ensures { λ o. ⌜ o ≡ M.mendedOptions r ⌝ }
 {
-    let present = r.unicast_options.present | r.unicast_options_ext.present;
+    let present = has_options(r);
     if r.unicast_options.present {
         let options = UnicastOptions::from_bits(r.unicast_options.options.0);
         return OptionalOptions { present, options };
@@ -170,12 +176,12 @@ pub(crate) fn mend_extended(r: DataPathStateTLV) -> OptionalExtendedFlags
     let word = extended_word(r.extended_flags) & OTHER_EXTENDED;
     let flags = DataPathExtendedFlags(
         word
-            + bit(
+            + presence_bit(
                 r.log_trigger_id.present,
                 DataPathExtendedFlags::LOG_TRIGGER_ID_PRESENT,
             )
-            + bit(r.rlfc.present, DataPathExtendedFlags::RLFC_PRESENT)
-            + bit(r.stats.present, DataPathExtendedFlags::STATS_PRESENT),
+            + presence_bit(r.rlfc.present, DataPathExtendedFlags::RLFC_PRESENT)
+            + presence_bit(r.stats.present, DataPathExtendedFlags::STATS_PRESENT),
     );
     let present = has_extended(r);
     OptionalExtendedFlags { present, flags }
@@ -184,22 +190,21 @@ pub(crate) fn mend_extended(r: DataPathStateTLV) -> OptionalExtendedFlags
 pub(crate) fn mend_flags(r: DataPathStateTLV) -> DataPathFlags
     ensures { λ f. ⌜ f ≡ M.mendedFlags r ⌝ }
 {
-    let has_options = r.unicast_options.present | r.unicast_options_ext.present;
     let word = r.flags.0 & OTHER_FLAGS;
     DataPathFlags(
         word
-            + bit(
+            + presence_bit(
                 r.infra_bssid_channel.present,
                 DataPathFlags::INFRA_BSSID_CHANNEL_PRESENT,
             )
-            + bit(
+            + presence_bit(
                 r.infra_address.present,
                 DataPathFlags::INFRA_ADDRESS_PRESENT,
             )
-            + bit(r.awdl_address.present, DataPathFlags::AWDL_ADDRESS_PRESENT)
-            + bit(r.country_code.present, DataPathFlags::COUNTRY_CODE_PRESENT)
-            + bit(r.channel_map.present, DataPathFlags::CHANNEL_MAP_PRESENT)
-            + bit(has_options, DataPathFlags::UNICAST_OPTIONS_PRESENT)
-            + bit(has_extended(r), DataPathFlags::EXTENDED_FLAGS),
+            + presence_bit(r.awdl_address.present, DataPathFlags::AWDL_ADDRESS_PRESENT)
+            + presence_bit(r.country_code.present, DataPathFlags::COUNTRY_CODE_PRESENT)
+            + presence_bit(r.channel_map.present, DataPathFlags::CHANNEL_MAP_PRESENT)
+            + presence_bit(has_options(r), DataPathFlags::UNICAST_OPTIONS_PRESENT)
+            + presence_bit(has_extended(r), DataPathFlags::EXTENDED_FLAGS),
     )
 }

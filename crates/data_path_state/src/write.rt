@@ -48,19 +48,28 @@ fn put_optional(buf: &mut [u8], at: usize, present: bool, bytes: &[u8]) -> usize
 fn put_optional_u16(buf: &mut [u8], at: usize, present: bool, v: u16) -> usize
     ensures { λ r. ⌜ Put (now (buf .entry)) at (cond present (littleBytes 2 v) []) r (now (buf .exit)) ⌝ }
 {
-    put_optional(buf, at, present, &wire::u16_bytes(v))
+    if present {
+        return wire::put_u16(buf, at, v);
+    }
+    at
 }
 
 fn put_optional_u32(buf: &mut [u8], at: usize, present: bool, v: u32) -> usize
     ensures { λ r. ⌜ Put (now (buf .entry)) at (cond present (littleBytes 4 v) []) r (now (buf .exit)) ⌝ }
 {
-    put_optional(buf, at, present, &wire::u32_bytes(v))
+    if present {
+        return wire::put_u32(buf, at, v);
+    }
+    at
 }
 
 fn put_optional_address(buf: &mut [u8], at: usize, present: bool, a: MACAddress) -> usize
     ensures { λ r. ⌜ Put (now (buf .entry)) at (cond present (addressBytes a) []) r (now (buf .exit)) ⌝ }
 {
-    put_optional(buf, at, present, &[a.0, a.1, a.2, a.3, a.4, a.5])
+    if present {
+        return wire::put_address(buf, at, a);
+    }
+    at
 }
 
 // Each of these puts a part of the record, field after field.
@@ -108,9 +117,12 @@ fn put_unicast(buf: &mut [u8], at: usize, r: DataPathStateTLV) -> usize
 fn put_stats(buf: &mut [u8], at: usize, s: OptionalStats) -> usize
     ensures { λ n. ⌜ PutIfRoom (now (buf .entry)) at (B.statsBytes s) n (now (buf .exit)) ⌝ }
 {
-    let behind_msec = put_optional_u32(buf, at, s.present, s.stats.msec_since_activation);
-    let behind_aw = put_optional_u32(buf, behind_msec, s.present, s.stats.aw_seq_counter);
-    put_optional_u32(buf, behind_aw, s.present, s.stats.pay_update_coutner)
+    if s.present {
+        let behind_msec = wire::put_u32(buf, at, s.stats.msec_since_activation);
+        let behind_aw = wire::put_u32(buf, behind_msec, s.stats.aw_seq_counter);
+        return wire::put_u32(buf, behind_aw, s.stats.pay_update_coutner);
+    }
+    at
 }
 
 fn put_extended(buf: &mut [u8], at: usize, r: DataPathStateTLV) -> usize

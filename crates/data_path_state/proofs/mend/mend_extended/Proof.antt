@@ -16,20 +16,20 @@ use native.Mathlib.Omega.{arith}
 extended-word-requires : tie.Need-extended-word-requires
 extended-word-requires c κs = search needs
 
-bit-requires : tie.Need-bit-requires
-bit-requires c κs = search needs
+presence-bit-requires : tie.Need-presence-bit-requires
+presence-bit-requires c κs = search needs
 
 add-t6 : tie.Need-add-t6
 add-t6 c = omega (arith, and-le-r (c .before .extended-word .result) 0xFF5A)
 
-bit-requires-2 : tie.Need-bit-requires-2
-bit-requires-2 c κs = search needs
+presence-bit-requires-2 : tie.Need-presence-bit-requires-2
+presence-bit-requires-2 c κs = search needs
 
 add-t8 : tie.Need-add-t8
 add-t8 c = omega (arith, and-le-r (c .before .before .extended-word .result) 0xFF5A)
 
-bit-requires-3 : tie.Need-bit-requires-3
-bit-requires-3 c κs = search needs
+presence-bit-requires-3 : tie.Need-presence-bit-requires-3
+presence-bit-requires-3 c κs = search needs
 
 add-t10 : tie.Need-add-t10
 add-t10 c = omega (arith, and-le-r (c .before .before .before .extended-word .result) 0xFF5A)
@@ -56,11 +56,11 @@ mend-extended-spec =
     tie.close
     (tie.spec
     extended-word-requires
-    bit-requires
+    presence-bit-requires
     add-t6
-    bit-requires-2
+    presence-bit-requires-2
     add-t8
-    bit-requires-3
+    presence-bit-requires-3
     add-t10
     has-extended-requires
     returns)

@@ -13,38 +13,41 @@ use mathlib.Core.Bool.{Bool, cond}
 use mathlib.Core.Path.{ap}
 use native.Mathlib.Omega.{arith}
 
-bit-requires : tie.Need-bit-requires
-bit-requires c κs = search needs
+presence-bit-requires : tie.Need-presence-bit-requires
+presence-bit-requires c κs = search needs
 
-add-t5 : tie.Need-add-t5
-add-t5 c = omega (arith, and-le-r (c .before .before .before .args .r .flags .0) 0x6CF8)
+add-t4 : tie.Need-add-t4
+add-t4 c = omega (arith, and-le-r (c .before .before .args .r .flags .0) 0x6CF8)
 
-bit-requires-2 : tie.Need-bit-requires-2
-bit-requires-2 c κs = search needs
+presence-bit-requires-2 : tie.Need-presence-bit-requires-2
+presence-bit-requires-2 c κs = search needs
 
-add-t7 : tie.Need-add-t7
-add-t7 c = omega (arith, and-le-r (c .before .before .before .before .args .r .flags .0) 0x6CF8)
+add-t6 : tie.Need-add-t6
+add-t6 c = omega (arith, and-le-r (c .before .before .before .args .r .flags .0) 0x6CF8)
 
-bit-requires-3 : tie.Need-bit-requires-3
-bit-requires-3 c κs = search needs
+presence-bit-requires-3 : tie.Need-presence-bit-requires-3
+presence-bit-requires-3 c κs = search needs
 
-add-t9 : tie.Need-add-t9
-add-t9 c = omega (arith, and-le-r (c .before .before .before .before .before .args .r .flags .0) 0x6CF8)
+add-t8 : tie.Need-add-t8
+add-t8 c = omega (arith, and-le-r (c .before .before .before .before .args .r .flags .0) 0x6CF8)
 
-bit-requires-4 : tie.Need-bit-requires-4
-bit-requires-4 c κs = search needs
+presence-bit-requires-4 : tie.Need-presence-bit-requires-4
+presence-bit-requires-4 c κs = search needs
 
-add-t11 : tie.Need-add-t11
-add-t11 c = omega (arith, and-le-r (c .before .before .before .before .before .before .args .r .flags .0) 0x6CF8)
+add-t10 : tie.Need-add-t10
+add-t10 c = omega (arith, and-le-r (c .before .before .before .before .before .args .r .flags .0) 0x6CF8)
 
-bit-requires-5 : tie.Need-bit-requires-5
-bit-requires-5 c κs = search needs
+presence-bit-requires-5 : tie.Need-presence-bit-requires-5
+presence-bit-requires-5 c κs = search needs
 
-add-t13 : tie.Need-add-t13
-add-t13 c = omega (arith, and-le-r (c .before .before .before .before .before .before .before .args .r .flags .0) 0x6CF8)
+add-t12 : tie.Need-add-t12
+add-t12 c = omega (arith, and-le-r (c .before .before .before .before .before .before .args .r .flags .0) 0x6CF8)
 
-bit-requires-6 : tie.Need-bit-requires-6
-bit-requires-6 c κs = search needs
+has-options-requires : tie.Need-has-options-requires
+has-options-requires c κs = search needs
+
+presence-bit-requires-6 : tie.Need-presence-bit-requires-6
+presence-bit-requires-6 c κs = search needs
 
 add-t15 : tie.Need-add-t15
 add-t15 c = omega (arith, and-le-r (c .before .before .before .before .before .before .before .before .args .r .flags .0) 0x6CF8)
@@ -52,8 +55,8 @@ add-t15 c = omega (arith, and-le-r (c .before .before .before .before .before .b
 has-extended-requires : tie.Need-has-extended-requires
 has-extended-requires c κs = search needs
 
-bit-requires-7 : tie.Need-bit-requires-7
-bit-requires-7 c κs = search needs
+presence-bit-requires-7 : tie.Need-presence-bit-requires-7
+presence-bit-requires-7 c κs = search needs
 
 add-t18 : tie.Need-add-t18
 add-t18 c = omega (arith, and-le-r (c .before .before .before .before .before .before .before .before .before .before .args .r .flags .0) 0x6CF8)
@@ -64,6 +67,7 @@ returns c =
     ap {B = DataPathFlags} (λ (n : ℕ). record { 0 = n })
     (omega (
       arith,
+      ap {B = ℕ} (λ (b : Bool). cond b 4096 0) (c .before .before .before .has-options .ensures),
       ap {B = ℕ} (λ (b : Bool). cond b 32768 0) (c .before .has-extended .ensures),
       word-mask (flagsRuns r) (r .flags .0),
       valued (r .«infra_bssid_channel» .present) 1,
@@ -79,19 +83,20 @@ pub mend-flags-spec : {M : Type 1} → statement M
 mend-flags-spec =
     tie.close
     (tie.spec
-    bit-requires
-    add-t5
-    bit-requires-2
-    add-t7
-    bit-requires-3
-    add-t9
-    bit-requires-4
-    add-t11
-    bit-requires-5
-    add-t13
-    bit-requires-6
+    presence-bit-requires
+    add-t4
+    presence-bit-requires-2
+    add-t6
+    presence-bit-requires-3
+    add-t8
+    presence-bit-requires-4
+    add-t10
+    presence-bit-requires-5
+    add-t12
+    has-options-requires
+    presence-bit-requires-6
     add-t15
     has-extended-requires
-    bit-requires-7
+    presence-bit-requires-7
     add-t18
     returns)
