@@ -1,12 +1,13 @@
 -- A word of hex digits goes by pairs: each pair is the byte at half its place, and the word is twice as long as its bytes.
 -- Assumes nothing.
-use Prim.Native.Nat.{ℕ, zero, suc, _+_, _*_, _/_, _%_, _≤_, _<_}
+use Prim.Native.Nat.{ℕ, zero, suc, _+_, _*_, _/_, _%_, _<_}
 use native.Mathlib.Omega.{arith}
 use mathlib.Core.Path.{_≡_, refl, sym, ap, _∙_}
-use mathlib.Core.Bool.{Bool, true, false}
+use mathlib.Core.Bool.{Bool, true, false, not}
 use mathlib.Core.List.{List, [], _∷_}
 use lib.ListN.{length, getD, drop}
 use lib.Seq.{drop-cons}
+use borrow.Author.Tests.{not-false}
 use Rattle.text.specs.Text.{hex, hexDigit}
 use Rattle.text.specs.Words.{Said, says, nothing, _>>=_, meant, hexByteOf, hexOf}
 
@@ -103,10 +104,19 @@ abbrev pub bytesIn : Said (List ℕ) → List ℕ
 bytesIn (says bytes) = bytes
 bytesIn nothing = []
 
-pub is-said : (m : Said (List ℕ)) → meant m ≡ true → m ≡ says (bytesIn m)
-is-said (says bytes) e = refl
-is-said nothing e = absurd (let z : _≡_ {A = ℕ} 0 1 = cc in omega arith)
+said-bytes : (m : Said (List ℕ)) → meant m ≡ true → m ≡ says (bytesIn m)
+said-bytes (says bytes) e = refl
+said-bytes nothing e = absurd (let z : _≡_ {A = ℕ} 0 1 = cc in omega arith)
 
-pub is-nothing : (m : Said (List ℕ)) → meant m ≡ false → m ≡ nothing
-is-nothing (says bytes) e = absurd (let z : _≡_ {A = ℕ} 0 1 = cc in omega arith)
-is-nothing nothing e = refl
+pub record HexWord (word : List ℕ) : Type 0 where
+  pub said : hexOf word ≡ says (bytesIn (hexOf word))
+  pub size : length word ≡ 2 * length (bytesIn (hexOf word))
+
+pub is-said : (word : List ℕ) {r : Bool} → r ≡ meant (hexOf word) → not r ≡ false → HexWord word
+is-said word {r} e f =
+    let said = said-bytes (hexOf word) (sym e ∙ not-false r f) in
+    record { said = said; size = half word said }
+
+pub no-hex : (m : Said (List ℕ)) → meant m ≡ false → m ≡ nothing
+no-hex (says bytes) e = absurd (let z : _≡_ {A = ℕ} 0 1 = cc in omega arith)
+no-hex nothing e = refl

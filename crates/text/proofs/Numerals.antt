@@ -12,8 +12,8 @@ use Rattle.text.specs.Words.{Said, says, nothing, _>>=_, provided, digit
 use Rattle.text.proofs.Letters.{among-in}
 
 -- a word of some digits and not too many
-pub counted : (word : List ℕ) → 1 ≤ length word → length word ≤ 20 → decimalOf word ≡ in64Bits (digitsOf 0 word)
-counted word h k = rw (among-in {first = 1} {last = 20} {n = length word} h k)
+pub few-digits : (word : List ℕ) → 1 ≤ length word → length word ≤ 20 → decimalOf word ≡ in64Bits (digitsOf 0 word)
+few-digits word h k = rw (among-in {first = 1} {last = 20} {n = length word} h k)
 
 too-large : (rest : List ℕ) (n : ℕ) → 2 ^ 64 ≤ n → in64Bits (digitsOf n rest) ≡ nothing
 unfolding digitsOf

@@ -1,7 +1,8 @@
--- Only one answer meets the statement of `decimal_of`: what it says can be turned back into the answer. The other calls' statements are equations.
+-- Only one answer meets each statement: what `decimal_of` says can be turned back into the answer, the statements of bytes that are put
+-- are equations, and a test of which both directions are known is true or false by them.
 -- Assumes nothing.
 use Prim.Native.Nat.{ℕ}
-use mathlib.Core.Path.{_≡_, refl, sym, ap, _∙_}
+use mathlib.Core.Path.{_≡_, refl, sym, _∙_}
 use mathlib.Core.Bool.{Bool, true, false}
 use mathlib.Core.List.{List}
 use Rattle.wire.proofs.Once.{only-one}

@@ -12,7 +12,7 @@ use Rattle.text.specs.Text.{decimal, hex}
 use Rattle.text.specs.Words.{Said, says, nothing, _>>=_, digitOf, digitsOf, decimalOf, hexOf}
 use Rattle.text.proofs.Digits.{one-digit, last-digit, some-digit, twenty-digits}
 use Rattle.text.proofs.Letters.{among-in, digit-again}
-use Rattle.text.proofs.Numerals.{counted}
+use Rattle.text.proofs.Numerals.{few-digits}
 
 -- digits behind digits
 digits-then : (n : ℕ) (xs ys : List ℕ) → digitsOf n (xs ++ ys) ≡ (digitsOf n xs >>= λ m. digitsOf m ys)
@@ -46,7 +46,7 @@ digits-again (suc most) n h = go (ltb n 10) refl (λ big. digits-again most (n /
 
 pub decimal-again : (n : ℕ) → n < 2 ^ 64 → decimalOf (decimal n) ≡ says n
 decimal-again n h =
-    rw (counted (decimal n) (some-digit n) (twenty-digits n h), digits-again (suc n) n (omega arith), lt-ltb n (2 ^ 64) h)
+    rw (few-digits (decimal n) (some-digit n) (twenty-digits n h), digits-again (suc n) n (omega arith), lt-ltb n (2 ^ 64) h)
 
 pub hex-again : (bytes : List ℕ) → ((i : ℕ) → getD bytes i 0 < 256) → hexOf (hex bytes) ≡ says bytes
 unfolding hex hexOf

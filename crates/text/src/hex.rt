@@ -1,5 +1,5 @@
 ghost use mathlib.Core.Path.{_≡_};
-ghost use Prim.Native.Nat.{ℕ, _+_, _<_};
+ghost use Prim.Native.Nat.{ℕ, _+_, _/_, _%_, _<_};
 ghost use lib.Dec.{leb};
 ghost use lib.ListN.{replicate};
 ghost use Rattle.wire.specs.Writing.{Put};
@@ -19,6 +19,18 @@ fn digit(d: u8) -> u8
     b'A' + (d - 10)
 }
 
+fn high_digit(byte: u8) -> u8
+    ensures { λ r. ⌜ r ≡ hexDigit (byte / 16) ⌝ }
+{
+    digit(byte / 16)
+}
+
+fn low_digit(byte: u8) -> u8
+    ensures { λ r. ⌜ r ≡ hexDigit (byte % 16) ⌝ }
+{
+    digit(byte % 16)
+}
+
 // Two digits for each byte. Where they do not fit, the buffer and the place stay as they are.
 pub fn put_hex(buf: &mut [u8], at: usize, bytes: &[u8]) -> usize
     ensures { λ r. ⌜ Put (now (buf .entry)) at (hex (now (bytes .entry))) r (now (buf .exit)) ⌝ }
@@ -31,8 +43,8 @@ pub fn put_hex(buf: &mut [u8], at: usize, bytes: &[u8]) -> usize
     }
     let mut i = 0;
     while i < bytes.len() {
-        buf[at + 2 * i] = digit(bytes[i] / 16);
-        buf[at + 2 * i + 1] = digit(bytes[i] % 16);
+        buf[at + 2 * i] = high_digit(bytes[i]);
+        buf[at + 2 * i + 1] = low_digit(bytes[i]);
         i += 1;
     }
     at + 2 * bytes.len()

@@ -1,6 +1,6 @@
 -- `decimal_of` meets its contract: what is left of the word says, behind the number so far, what the whole word says.
 -- Assumes nothing.
-use Prim.Native.Nat.{suc, _+_, _-_, _^_, _≤_, _<_}
+use Prim.Native.Nat.{suc, _-_, _^_, _≤_, _<_}
 use native.Mathlib.Numerals.{add-one}
 use mathlib.Core.Path.{_≡_, sym, _∙_}
 use native.Mathlib.Omega.{arith}
@@ -13,7 +13,7 @@ use Rattle.wire.proofs.Once.{told}
 use Rattle.text.specs.Words.{digitsOf, in64Bits, decimalOf}
 use Rattle.text.specs.Said.{saidDecimal}
 use Rattle.text.proofs.Letters.{among-out}
-use Rattle.text.proofs.Numerals.{counted, digit-by-digit, in64-below}
+use Rattle.text.proofs.Numerals.{few-digits, digit-by-digit, in64-below}
 use Rattle.text.proofs.decimal.decimal_of.Statement.{statement}
 use Rattle.text.proofs.decimal.decimal_of.Tie as tie
 
@@ -30,7 +30,7 @@ returns-2 : tie.Need-returns-2 Inv-loop μ-loop
 returns-2 c = rw (among-out 1 20 (length (c .before .before .before .args .word .now)) (λ h k. omega arith))
 
 loop-holds : tie.Need-loop-holds Inv-loop μ-loop
-loop-holds c = (omega arith, omega arith, counted (c .before .before .before .args .word .now) (omega arith) (omega arith))
+loop-holds c = (omega arith, omega arith, few-digits (c .before .before .before .args .word .now) (omega arith) (omega arith))
 
 shared-slice-read-with-digit : tie.Need-shared-slice-read-with-digit Inv-loop μ-loop
 shared-slice-read-with-digit c = search needs

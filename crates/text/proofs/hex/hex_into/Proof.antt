@@ -1,19 +1,19 @@
 -- `hex_into` meets its contract: each turn stores the byte of one pair more.
 -- Assumes nothing.
-use Prim.Native.Nat.{_+_, _-_, _*_, _/_}
-use mathlib.Core.Path.{_≡_, refl, sym, _∙_}
+use Prim.Native.Nat.{_+_, _-_, _/_}
+use mathlib.Core.Path.{refl, sym, _∙_}
 use native.Mathlib.Omega.{arith}
 use borrow.Author.Needs.{needs}
 use borrow.Author.Tests.{not-true, not-false, leb-true, leb-false}
 use lib.ListN.{length, getD}
-use Rattle.text.specs.Words.{says, hexOf}
-use Rattle.text.proofs.Halves.{half, pair-at, bytesIn, is-said, is-nothing}
+use Rattle.text.specs.Words.{hexOf}
+use Rattle.text.proofs.Halves.{pair-at, bytesIn, HexWord, is-said, no-hex}
 use Rattle.text.proofs.Begun.{Begun, begin, said-past, go-on, said-whole}
 use Rattle.text.proofs.hex.hex_into.Statement.{statement}
 use Rattle.text.proofs.hex.hex_into.Tie as tie
 
 abbrev Inv-loop : tie.InvT-loop
-Inv-loop buf₀ at word n i₀ buf i = (hexOf word ≡ says (bytesIn (hexOf word))) × (length word ≡ 2 * n) × Begun buf₀ at (bytesIn (hexOf word)) n i buf
+Inv-loop buf₀ at word n i₀ buf i = HexWord word × Begun buf₀ at (bytesIn (hexOf word)) n i buf
 
 abbrev μ-loop : tie.MeasureT-loop
 μ-loop buf₀ at word n i₀ buf i = n - i
@@ -24,7 +24,7 @@ is-hex-requires c κs = search needs
 returns : tie.Need-returns Inv-loop μ-loop
 returns c =
     let word = c .before .before .before .before .args .word .now in
-    rw (is-nothing (hexOf word) (sym (c .before .is-hex .ensures) ∙ not-true _ (c .if1 .taken))) (record { place = refl; buffer = refl })
+    rw (no-hex (hexOf word) (sym (c .before .is-hex .ensures) ∙ not-true _ (c .if1 .taken))) (record { place = refl; buffer = refl })
 
 has-room-requires : tie.Need-has-room-requires Inv-loop μ-loop
 has-room-requires c κs = search needs
@@ -33,19 +33,17 @@ returns-2 : tie.Need-returns-2 Inv-loop μ-loop
 returns-2 c =
     let a = c .before .before .before .before .before .before .args in
     let word = a .word .now in
-    let said = is-said (hexOf word) (sym (c .before .before .before .is-hex .ensures) ∙ not-false _ (c .before .before .if1 .left)) in
-    let size = half word said in
+    let w = is-said word (c .before .before .before .is-hex .ensures) (c .before .before .if1 .left) in
     let full = leb-false (a .at + length word / 2) (length (a .buf .now)) (sym (c .before .has-room .ensures) ∙ not-true _ (c .if2 .taken)) in
-    rw said (said-past (a .buf .now) (a .at) (bytesIn (hexOf word)) refl (omega arith))
+    rw (w .said) (said-past (a .buf .now) (a .at) (bytesIn (hexOf word)) refl (omega arith))
 
 loop-holds : tie.Need-loop-holds Inv-loop μ-loop
 loop-holds c =
     let a = c .before .before .before .before .before .before .args in
     let word = a .word .now in
-    let said = is-said (hexOf word) (sym (c .before .before .before .is-hex .ensures) ∙ not-false _ (c .before .before .if1 .left)) in
-    let size = half word said in
+    let w = is-said word (c .before .before .before .is-hex .ensures) (c .before .before .if1 .left) in
     let room = leb-true (a .at + length word / 2) (length (a .buf .now)) (sym (c .before .has-room .ensures) ∙ not-false _ (c .if2 .left)) in
-    (said, omega arith, begin (a .buf .now) (a .at) (bytesIn (hexOf word)) (omega arith) (omega arith))
+    (w, begin (a .buf .now) (a .at) (bytesIn (hexOf word)) (omega arith) (omega arith))
 
 mul-byte : tie.Need-mul-byte Inv-loop μ-loop
 mul-byte c = search needs
@@ -81,8 +79,8 @@ loop-again : tie.Need-loop-again Inv-loop μ-loop
 loop-again c =
     let word = c .before .before .before .before .before .before .before .before .before .before .before .args .word .now in
     let loop = c .before .before .before .before .loop in
-    let pair = pair-at word (loop .inv .0) (loop .i) (omega arith) in
-    (loop .inv .0, loop .inv .1, go-on (loop .inv .2) (omega arith) (c .byte .ensures (getD (bytesIn (hexOf word)) (loop .i) 0) pair) refl refl)
+    let pair = pair-at word (loop .inv .0 .said) (loop .i) (omega arith) in
+    (loop .inv .0, go-on (loop .inv .1) (omega arith) (c .byte .ensures (getD (bytesIn (hexOf word)) (loop .i) 0) pair) refl refl)
 
 add-t8 : tie.Need-add-t8 Inv-loop μ-loop
 add-t8 c = search needs
@@ -91,7 +89,7 @@ same-length : tie.Need-same-length Inv-loop μ-loop
 same-length c = search needs
 
 returns-3 : tie.Need-returns-3 Inv-loop μ-loop
-returns-3 c = let loop = c .before .loop in rw (loop .inv .0) (said-whole (loop .inv .2) (omega arith))
+returns-3 c = let loop = c .before .loop in rw (loop .inv .0 .said) (said-whole (loop .inv .1) (omega arith))
 
 pub hex-into-spec : {M : Type 1} → statement M
 hex-into-spec =

@@ -1,6 +1,6 @@
 -- `put_hex` meets its contract: each turn stores the two digits of one byte more.
 -- Assumes nothing.
-use Prim.Native.Nat.{_+_, _-_, _*_}
+use Prim.Native.Nat.{_-_, _*_}
 use mathlib.Core.Path.{sym, refl, _∙_}
 use native.Mathlib.Omega.{arith}
 use borrow.Author.Needs.{needs}
@@ -35,11 +35,11 @@ loop-holds c =
     let a = c .before .before .before .before .args in
     begin (a .buf .now) (a .at) (hex (a .bytes .now)) (length-hex (a .bytes .now)) (omega arith)
 
-shared-slice-read-digit : tie.Need-shared-slice-read-digit Inv-loop μ-loop
-shared-slice-read-digit c = search needs
+shared-slice-read-high-digit : tie.Need-shared-slice-read-high-digit Inv-loop μ-loop
+shared-slice-read-high-digit c = search needs
 
-digit-requires : tie.Need-digit-requires Inv-loop μ-loop
-digit-requires c κs = omega (arith, c .shared-slice-known2 .given (c .before .before .loop .i))
+high-digit-requires : tie.Need-high-digit-requires Inv-loop μ-loop
+high-digit-requires c κs = search needs
 
 mul-buf : tie.Need-mul-buf Inv-loop μ-loop
 mul-buf c = search needs
@@ -50,11 +50,11 @@ add-buf c = search needs
 slice-write-buf : tie.Need-slice-write-buf Inv-loop μ-loop
 slice-write-buf c = search needs
 
-shared-slice-read-digit-2 : tie.Need-shared-slice-read-digit-2 Inv-loop μ-loop
-shared-slice-read-digit-2 c = search needs
+shared-slice-read-low-digit : tie.Need-shared-slice-read-low-digit Inv-loop μ-loop
+shared-slice-read-low-digit c = search needs
 
-digit-requires-2 : tie.Need-digit-requires-2 Inv-loop μ-loop
-digit-requires-2 c κs = search needs
+low-digit-requires : tie.Need-low-digit-requires Inv-loop μ-loop
+low-digit-requires c κs = search needs
 
 mul-buf-2 : tie.Need-mul-buf-2 Inv-loop μ-loop
 mul-buf-2 c = search needs
@@ -78,8 +78,8 @@ loop-again : tie.Need-loop-again Inv-loop μ-loop
 loop-again c =
     let bytes = c .before .before .before .before .before .before .before .before .before .before .args .bytes .now in
     let i = c .before .before .before .before .before .loop .i in
-    let high = c .before .before .digit .ensures ∙ sym (high-digit bytes i (omega arith)) in
-    let low = c .digit2 .ensures ∙ sym (low-digit bytes i (omega arith)) in
+    let high = c .before .before .high-digit .ensures ∙ sym (high-digit bytes i (omega arith)) in
+    let low = c .low-digit .ensures ∙ sym (low-digit bytes i (omega arith)) in
     go-on (go-on (c .before .before .before .before .before .loop .inv) (omega arith) high refl refl) (omega arith) low (omega arith) (omega arith)
 
 mul-result : tie.Need-mul-result Inv-loop μ-loop
@@ -104,13 +104,13 @@ put-hex-spec =
     sub-if2
     returns-2
     loop-holds
-    shared-slice-read-digit
-    digit-requires
+    shared-slice-read-high-digit
+    high-digit-requires
     mul-buf
     add-buf
     slice-write-buf
-    shared-slice-read-digit-2
-    digit-requires-2
+    shared-slice-read-low-digit
+    low-digit-requires
     mul-buf-2
     add-buf-2
     add-buf-3
