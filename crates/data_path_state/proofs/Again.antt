@@ -80,11 +80,10 @@ options-bytes options p =
 
 word-bytes : (word : List ℕ) → OctetField 2 word → littleBytes 2 (wordBy extendedKept (little word)) ≡ wordAgain word
 word-bytes word p =
-    let at : ℕ → ℕ = λ i. getD word i 0 in
     let small : (i : ℕ) → getD word i 0 < 256 = p .octets .small in
     subst (λ (b : List ℕ). littleBytes 2 (wordBy extendedKept (little b)) ≡ wordAgain b) (by-place 2 word (p .size))
-    (ap (littleBytes 2) (kept-extended-mask (little (at 0 ∷ at 1 ∷ [])))
-    ∙ masked 1 (at 0) (little (at 1 ∷ [])) 0x7F 0xFF (small 0) (omega arith) (whole 0 (at 1) 0 0 (small 1) refl))
+    (ap (littleBytes 2) (kept-extended-mask (little (getD word 0 0 ∷ getD word 1 0 ∷ [])))
+    ∙ masked 1 (getD word 0 0) (little (getD word 1 0 ∷ [])) 0x7F 0xFF (small 0) (omega arith) (whole 0 (getD word 1 0) 0 0 (small 1) refl))
 
 -- the dropped bit of the extended word announces nothing
 record Announces (w : ℕ) : Type 0 where

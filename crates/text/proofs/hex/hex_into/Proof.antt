@@ -32,10 +32,9 @@ has-room-requires c κs = search needs
 returns-2 : tie.Need-returns-2 Inv-loop μ-loop
 returns-2 c =
     let a = c .before .before .before .before .before .before .args in
-    let word = a .word .now in
-    let w = is-said word (c .before .before .before .is-hex .ensures) (c .before .before .if1 .left) in
-    let full = leb-false (a .at + length word / 2) (length (a .buf .now)) (sym (c .before .has-room .ensures) ∙ not-true _ (c .if2 .taken)) in
-    rw (w .said) (said-past (a .buf .now) (a .at) (bytesIn (hexOf word)) refl (omega arith))
+    let w = is-said (a .word .now) (c .before .before .before .is-hex .ensures) (c .before .before .if1 .left) in
+    let full = leb-false (a .at + length (a .word .now) / 2) (length (a .buf .now)) (sym (c .before .has-room .ensures) ∙ not-true _ (c .if2 .taken)) in
+    rw (w .said) (said-past (a .buf .now) (a .at) (bytesIn (hexOf (a .word .now))) refl (omega arith))
 
 loop-holds : tie.Need-loop-holds Inv-loop μ-loop
 loop-holds c =
