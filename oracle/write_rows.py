@@ -4,6 +4,7 @@ Made from document 01 alone: its refusal numbers and their order, the frame
 and its items, the data path record, the synchronization record, and
 departures (b), (e), (f) and (h). Only names that 01 does not spell out, the
 two subtypes and the numbers of the types that are not read are the Rust's.
+So are the named bits and the record of the synchronization test.
 Compare with
 `python3 oracle/write_rows.py | diff - crates/write_rows/stdout`.
 """
