@@ -1,0 +1,629 @@
+"""One reading of docs/01-scope.md (01), in its order and words.
+
+It is written from 01 alone; only the names of bits, and the numbers of types
+and subtypes that 01 does not list, are the Rust's. A reader gives its size
+and its record, a writer its size and the buffer as it is afterwards, and a
+call that is refused raises `Refused` with 01's number.
+"""
+
+from collections import namedtuple
+
+
+# Numbers a call can answer with.
+
+SHORT = 1                   # the input ends before a needed byte
+NOT_ACTION = 2              # first frame byte present and not 0x08
+NOT_VERSION = 3             # second frame byte present and not 0x10
+UNICAST_LENGTH = 4          # unicast length neither 4 nor 8
+ENCODING = 5                # channel encoding not 0, 1 or 3
+NO_ROOM = 6                 # the buffer is shorter than the size to write
+INCONSISTENT = 7            # the record is not consistent
+TOO_LONG = 8                # an item value is longer than 65,535 bytes
+SENT_BEFORE_HAND_OVER = 9   # `tx_delta`, the sending stamp below the hand-over stamp
+
+
+class Refused(Exception):
+    def __init__(self, number):
+        super().__init__(number)
+        self.number = number
+
+
+class Source:
+    """Bytes that are read in order: the first fault met wins."""
+
+    def __init__(self, data, at=0):
+        self.data = data
+        self.at = at
+
+    def take(self, width):
+        start = self.at
+        self.at = start + width
+        if self.at > len(self.data):
+            raise Refused(SHORT)
+        return self.data[start:self.at]
+
+    def number(self, width):
+        return int.from_bytes(self.take(width), "little")
+
+
+def little(number, width):
+    """All numbers are little-endian on every board."""
+    return number.to_bytes(width, "little")
+
+
+def put(data, buffer):
+    """A buffer longer than needed keeps its bytes past the size."""
+    if len(buffer) < len(data):
+        raise Refused(NO_ROOM)
+    return len(data), data + buffer[len(data):]
+
+
+# The frame and its items.
+
+HEADER_SIZE = 12
+ITEM_HEADER_SIZE = 3
+
+Frame = namedtuple("Frame", "subtype phy_tx_time target_tx_time")
+Item = namedtuple("Item", "at type length")
+
+WHOLE = "whole"
+CUT = "cut"
+
+
+def read_frame(data):
+    """08 10; subtype, one reserved byte, two stamps of 4 bytes; then the tail."""
+    source = Source(data)
+    if source.number(1) != 0x08:
+        raise Refused(NOT_ACTION)
+    if source.number(1) != 0x10:
+        raise Refused(NOT_VERSION)
+    subtype = source.number(1)
+    source.take(1)
+    frame = Frame(subtype, source.number(4), source.number(4))
+    return source.at, frame
+
+
+def frame_tail(data):
+    """Where the tail starts, and the tail: nothing where the frame ends before it."""
+    start = min(HEADER_SIZE, len(data))
+    return start, data[start:]
+
+
+def write_frame(frame, tail, buffer):
+    """The reserved byte is written as 0."""
+    stamps = little(frame.phy_tx_time, 4) + little(frame.target_tx_time, 4)
+    return put(bytes([0x08, 0x10, frame.subtype, 0]) + stamps + tail, buffer)
+
+
+def tx_delta(phy_tx_time, target_tx_time):
+    if phy_tx_time < target_tx_time:
+        raise Refused(SENT_BEFORE_HAND_OVER)
+    return phy_tx_time - target_tx_time
+
+
+def step(tail, at):
+    """At its end: whole. With fewer than 3 bytes left, or a length above what
+    follows: cut at that place. Otherwise an item."""
+    left = len(tail) - at
+    if left == 0:
+        return WHOLE
+    if left < ITEM_HEADER_SIZE:
+        return CUT
+    length = int.from_bytes(tail[at + 1:at + 3], "little")
+    if length > left - ITEM_HEADER_SIZE:
+        return CUT
+    return Item(at, tail[at], length)
+
+
+def behind(item):
+    """The walk goes on behind the value."""
+    return item.at + ITEM_HEADER_SIZE + item.length
+
+
+def value(tail, item):
+    """Where the value starts, and it: of an item that the tail does not hold,
+    the empty part at the tail's start."""
+    if behind(item) > len(tail):
+        return 0, b""
+    start = item.at + ITEM_HEADER_SIZE
+    return start, tail[start:start + item.length]
+
+
+def walk(tail, at=0):
+    """The items from a place on, one by one."""
+    item = step(tail, at)
+    while isinstance(item, Item):
+        yield item
+        item = step(tail, behind(item))
+
+
+def end(tail):
+    """Whole or cut, at which place, and how many items there are."""
+    at = items = 0
+    for item in walk(tail):
+        at = behind(item)
+        items += 1
+    return step(tail, at), at, items
+
+
+def accepted(tail, at, kind, read):
+    """The records of a type from a place on: a refused value is passed over
+    and the search continues."""
+    for item in walk(tail, at):
+        if item.type == kind:
+            try:
+                yield item, read(value(tail, item)[1])[1]
+            except Refused:
+                pass
+
+
+def write_item(kind, data, buffer):
+    """Type (1), length (2), value."""
+    if len(data) > 65535:
+        raise Refused(TOO_LONG)
+    return put(bytes([kind]) + little(len(data), 2) + data, buffer)
+
+
+# Data path record. Each field but the flags has its presence first.
+
+DATA_PATH_TYPE = 0x0C
+DATA_PATH_SIZES = 2, 57
+EXTENDED_KEEP = 0xFF7F
+OPTIONS_KEEP = 0xFFFFFE6A
+MAP_KEEP = 7
+NO_ADDRESS = bytes(6)
+
+DataPath = namedtuple(
+    "DataPath",
+    "flags country channel infra_bssid infra awdl options ext extended rlfc trigger stats",
+)
+ZERO_DATA_PATH = DataPath(
+    flags=0,
+    country=(0, 0, 0),
+    channel=(0, "single", 0),
+    infra_bssid=(0, NO_ADDRESS, 0),
+    infra=(0, NO_ADDRESS),
+    awdl=(0, NO_ADDRESS),
+    options=(0, 0),
+    ext=(0, 0),
+    extended=(0, 0),
+    rlfc=(0, 0),
+    trigger=(0, 0),
+    stats=(0, 0, 0, 0),
+)
+
+
+def channel_of(word):
+    """With bit 0 clear a single channel, its low byte; with bit 0 set a map,
+    its low three bits."""
+    if word & 1 == 0:
+        return "single", word & 0xFF
+    return "map", word & MAP_KEEP
+
+
+def read_data_path(data):
+    source = Source(data)
+    fields = {}
+    flags = source.number(2)
+    if flags >> 8 & 1:
+        fields["country"] = 1, source.number(1), source.number(1)
+        source.take(1)
+    if flags >> 9 & 1:
+        fields["channel"] = 1, *channel_of(source.number(2))
+    if flags >> 0 & 1:
+        fields["infra_bssid"] = 1, source.take(6), source.number(2)
+    if flags >> 1 & 1:
+        fields["infra"] = 1, source.take(6)
+    if flags >> 2 & 1:
+        fields["awdl"] = 1, source.take(6)
+    if flags >> 12 & 1:
+        length = source.number(2)
+        if length != 4 and length != 8:
+            raise Refused(UNICAST_LENGTH)
+        fields["options"] = 1, source.number(4) & OPTIONS_KEEP
+        if length == 8:
+            fields["ext"] = 1, source.number(4)
+    if flags >> 15 & 1:
+        extended = source.number(2)
+        fields["extended"] = 1, extended & EXTENDED_KEEP
+        if extended >> 0 & 1:
+            fields["trigger"] = 1, source.number(2)
+        if extended >> 2 & 1:
+            fields["rlfc"] = 1, source.number(4)
+        if extended >> 5 & 1:
+            fields["stats"] = 1, source.number(4), source.number(4), source.number(4)
+    return source.at, ZERO_DATA_PATH._replace(flags=flags, **fields)
+
+
+def presence_bits(record):
+    """The flags with their presence bits set from presence."""
+    flags = record.flags & ~0x9307
+    flags |= record.country[0] << 8 | record.channel[0] << 9
+    flags |= record.infra_bssid[0] << 0 | record.infra[0] << 1 | record.awdl[0] << 2
+    return flags | record.options[0] << 12 | record.extended[0] << 15
+
+
+def extended_presence_bits(record):
+    """The extended flags with theirs."""
+    word = record.extended[1] & ~0x0025
+    return word | record.trigger[0] << 0 | record.rlfc[0] << 2 | record.stats[0] << 5
+
+
+def has_extended_field(record):
+    return record.trigger[0] or record.rlfc[0] or record.stats[0]
+
+
+def channel_is_right(present, kind, number):
+    """Single channel even, at most 254; map odd and at most 7."""
+    if not present:
+        return True
+    if kind == "single":
+        return number % 2 == 0 and number <= 254
+    return number % 2 == 1 and number <= 7
+
+
+def is_consistent(record):
+    if record.flags != presence_bits(record):
+        return False
+    if record.ext[0] and not record.options[0]:
+        return False
+    if has_extended_field(record) and not record.extended[0]:
+        return False
+    if record.extended[0] and record.extended[1] != extended_presence_bits(record):
+        return False
+    if not channel_is_right(*record.channel):
+        return False
+    if record.options[1] & ~OPTIONS_KEEP or record.extended[1] & ~EXTENDED_KEEP:
+        return False
+    return all(
+        field[0] or field == zero for field, zero in zip(record[1:], ZERO_DATA_PATH[1:])
+    )
+
+
+def mend(record):
+    """What the Rust writer does, departure (g) apart."""
+    fields = [
+        field if field[0] else zero for field, zero in zip(record[1:], ZERO_DATA_PATH[1:])
+    ]
+    record = DataPath(record.flags, *fields)
+    if has_extended_field(record) or record.extended[0]:
+        extended = extended_presence_bits(record) & EXTENDED_KEEP
+        record = record._replace(extended=(1, extended))
+    if record.ext[0] or record.options[0]:
+        record = record._replace(options=(1, record.options[1] & OPTIONS_KEEP))
+    return record._replace(flags=presence_bits(record))
+
+
+def data_path_bytes(record):
+    if not is_consistent(record):
+        raise Refused(INCONSISTENT)
+    data = little(record.flags, 2)
+    if record.country[0]:
+        data += bytes(record.country[1:]) + b"\0"
+    if record.channel[0]:
+        data += little(record.channel[2], 2)
+    if record.infra_bssid[0]:
+        data += record.infra_bssid[1] + little(record.infra_bssid[2], 2)
+    if record.infra[0]:
+        data += record.infra[1]
+    if record.awdl[0]:
+        data += record.awdl[1]
+    if record.options[0]:
+        words = little(record.options[1], 4)
+        if record.ext[0]:
+            words += little(record.ext[1], 4)
+        data += little(len(words), 2) + words
+    if record.extended[0]:
+        data += little(record.extended[1], 2)
+    if record.trigger[0]:
+        data += little(record.trigger[1], 2)
+    if record.rlfc[0]:
+        data += little(record.rlfc[1], 4)
+    if record.stats[0]:
+        data += b"".join(little(number, 4) for number in record.stats[1:])
+    return data
+
+
+def data_path_size(record):
+    """A size asked of an inconsistent record is refused with 7."""
+    return len(data_path_bytes(record))
+
+
+def write_data_path(record, buffer):
+    return put(data_path_bytes(record), buffer)
+
+
+# Synchronization and channels.
+
+SYNCHRONIZATION_TYPE = 0x04
+SYNCHRONIZATION_SIZE = 33
+
+# Name, offset and width; byte 28 is reserved.
+SYNCHRONIZATION_FIELDS = [
+    ("next_channel", 0, 1),
+    ("tx_counter", 1, 2),
+    ("master_channel", 3, 1),
+    ("guard_time", 4, 1),
+    ("aw_period", 5, 2),
+    ("af_period", 7, 2),
+    ("awdl_flags", 9, 2),
+    ("aw_ext_length", 11, 2),
+    ("aw_common_length", 13, 2),
+    ("remaining_aw_length", 15, 2),
+    ("min_ext_count", 17, 1),
+    ("max_multicast_ext_count", 18, 1),
+    ("max_unicast_ext_count", 19, 1),
+    ("max_af_ext_count", 20, 1),
+    ("master_address", 21, 6),
+    ("presence_mode", 27, 1),
+    ("aw_seq_number", 29, 2),
+    ("ap_beacon_alignment_delta", 31, 2),
+]
+Synchronization = namedtuple(
+    "Synchronization", [name for name, _, _ in SYNCHRONIZATION_FIELDS]
+)
+
+
+def synchronization_of(data):
+    """An address is its bytes, every other field a number."""
+    fields = []
+    for name, offset, width in SYNCHRONIZATION_FIELDS:
+        part = data[offset:offset + width]
+        fields.append(part if name == "master_address" else int.from_bytes(part, "little"))
+    return Synchronization(*fields)
+
+
+ZERO_SYNCHRONIZATION = synchronization_of(bytes(SYNCHRONIZATION_SIZE))
+
+
+def read_synchronization(data):
+    """33 bytes are read; what follows is no part of the record."""
+    if len(data) < SYNCHRONIZATION_SIZE:
+        raise Refused(SHORT)
+    return SYNCHRONIZATION_SIZE, synchronization_of(data)
+
+
+def write_synchronization(record, buffer):
+    """The reserved byte 28 is written 0."""
+    data = bytearray(SYNCHRONIZATION_SIZE)
+    for field, (name, offset, width) in zip(record, SYNCHRONIZATION_FIELDS):
+        part = field if name == "master_address" else little(field, width)
+        data[offset:offset + width] = part
+    return put(bytes(data), buffer)
+
+
+SIMPLE = 0
+LEGACY = 1
+OPCLASS = 3
+ENTRIES = 16
+LEGACY_KEEP = 0x3F
+
+Channel = namedtuple("Channel", "encoding first second")
+Sequence = namedtuple("Sequence", "encoding bytes")
+ZERO_SEQUENCE = Sequence(0, bytes(32))
+
+
+def known_encoding(encoding):
+    if encoding not in (SIMPLE, LEGACY, OPCLASS):
+        raise Refused(ENCODING)
+    return encoding
+
+
+def entry_size(encoding):
+    """One byte each (0), flags and channel (1), channel and opclass (3)."""
+    return 1 if known_encoding(encoding) == SIMPLE else 2
+
+
+def read_sequence(data, at, encoding):
+    """The place behind the sequence, and it; 5 is checked before 1."""
+    source = Source(data, at)
+    used = bytearray(source.take(ENTRIES * entry_size(encoding)))
+    if encoding == LEGACY:
+        used[0::2] = bytes(flags & LEGACY_KEEP for flags in used[0::2])
+    return source.at, Sequence(encoding, bytes(used.ljust(32, b"\0")))
+
+
+def sequence_is_consistent(sequence):
+    """Its unused bytes are 0 and its legacy flags at most 0x3F."""
+    used = ENTRIES * entry_size(sequence.encoding)
+    if any(sequence.bytes[used:]):
+        return False
+    return sequence.encoding != LEGACY or max(sequence.bytes[0::2]) <= LEGACY_KEEP
+
+
+def sequence_bytes(sequence):
+    if not sequence_is_consistent(sequence):
+        raise Refused(INCONSISTENT)
+    return sequence.bytes[:ENTRIES * entry_size(sequence.encoding)]
+
+
+def sequence_size(sequence):
+    return len(sequence_bytes(sequence))
+
+
+def write_sequence(sequence, buffer):
+    return put(sequence_bytes(sequence), buffer)
+
+
+def fixed_sequence(channel):
+    """One channel 16 times; it checks 5, then 7 for legacy flags above 0x3F or
+    a simple channel's second byte not 0."""
+    encoding = known_encoding(channel.encoding)
+    if encoding == LEGACY and channel.first > LEGACY_KEEP:
+        raise Refused(INCONSISTENT)
+    if encoding == SIMPLE and channel.second != 0:
+        raise Refused(INCONSISTENT)
+    entry = bytes([channel.first, channel.second])[:entry_size(encoding)]
+    return Sequence(encoding, (entry * ENTRIES).ljust(32, b"\0"))
+
+
+def support_channel(flags):
+    """The low two flag bits; bandwidth and band are the next two pairs."""
+    return flags & 3
+
+
+def channel_bandwidth(flags):
+    return flags >> 2 & 3
+
+
+def band(flags):
+    return flags >> 4 & 3
+
+
+def corrected_channel(channel):
+    """Two below for support channel 1, two above for 2, else itself, counted
+    modulo 256; only a legacy channel is corrected."""
+    if known_encoding(channel.encoding) != LEGACY:
+        return channel.first
+    support = support_channel(channel.first)
+    if support == 1:
+        return (channel.second - 2) % 256
+    if support == 2:
+        return (channel.second + 2) % 256
+    return channel.second
+
+
+# The report of a frame, line by line, and the dump.
+#
+# A mark says which line comes next: ("too_long",), ("frame",),
+# ("item", at, items), ("data_path", item, next, items), the same for
+# ("synchronization", ...), and ("end",). The places in a mark are the walk's;
+# in a line places count from the frame's start.
+
+DUMP_LIMIT = 4096
+
+
+def dump_start(data):
+    return ("too_long",) if len(data) > DUMP_LIMIT else ("frame",)
+
+
+def delta_word(frame):
+    try:
+        return tx_delta(frame.phy_tx_time, frame.target_tx_time)
+    except Refused:
+        return "none"
+
+
+def frame_line(data):
+    try:
+        frame = read_frame(data)[1]
+    except Refused as refusal:
+        return f"refused {refusal.number}", ("end",)
+    stamps = f"phy={frame.phy_tx_time} target={frame.target_tx_time}"
+    line = f"frame subtype={frame.subtype} {stamps} delta={delta_word(frame)}"
+    return line, ("item", 0, 0)
+
+
+def item_line(data, at, items):
+    """A place outside the tail, or with more items than bytes before it, is none of its walk and has no line."""
+    tail = frame_tail(data)[1]
+    if at > len(tail) or items > at:
+        return None
+    item = step(tail, at)
+    if item == WHOLE:
+        return f"end whole items={items}", ("end",)
+    if item == CUT:
+        return f"end cut at={HEADER_SIZE + at} items={items}", ("end",)
+    line = f"item at={HEADER_SIZE + at} type={item.type} length={item.length}"
+    if item.type == DATA_PATH_TYPE:
+        return line, ("data_path", item, behind(item), items + 1)
+    if item.type == SYNCHRONIZATION_TYPE:
+        return line, ("synchronization", item, behind(item), items + 1)
+    return line, ("item", behind(item), items + 1)
+
+
+def value_line(data, kind, item):
+    part = value(frame_tail(data)[1], item)[1]
+    try:
+        if kind == "data_path":
+            size, record = read_data_path(part)
+            return f"data flags={record.flags} size={size}"
+        return f"sync seq={read_synchronization(part)[1].aw_seq_number}"
+    except Refused as refusal:
+        return f"value refused {refusal.number}"
+
+
+def next_line(data, mark):
+    """The line at a mark and the mark behind it, or None at the end."""
+    kind = mark[0]
+    if kind == "too_long":
+        return "input too long", ("end",)
+    if kind == "frame":
+        return frame_line(data)
+    if kind == "item":
+        return item_line(data, *mark[1:])
+    if kind == "end":
+        return None
+    _, item, following, items = mark
+    return value_line(data, kind, item), ("item", following, items)
+
+
+def lines(data, mark=("frame",)):
+    """All lines from a mark on."""
+    found = next_line(data, mark)
+    while found is not None:
+        yield found[0]
+        found = next_line(data, found[1])
+
+
+def dump(data):
+    return lines(data, dump_start(data))
+
+
+# Names from the Rust, each with its number or its bits.
+
+TYPES = {
+    "NULL": 0x00,
+    "SERVICE_RESPONSE": 0x02,
+    "SYNCHRONIZATION_PARAMETERS": 0x04,
+    "ELECTION_PARAMETERS": 0x05,
+    "HT_CAPABILITIES": 0x07,
+    "DATA_PATH_STATE": 0x0C,
+    "ARPA": 0x10,
+    "IEEE80211_CONTAINER": 0x11,
+    "CHANNEL_SEQUENCE": 0x12,
+    "SYNCHRONIZATION_TREE": 0x14,
+    "VERSION": 0x15,
+    "ELECTION_PARAMETERS_V2": 0x18,
+}
+SUBTYPES = {"PSF": 0x00, "MIF": 0x03}
+
+
+def bits(names):
+    """Each name with its bit, from bit 0 on; a number in parentheses says how
+    many bits a name has, and a dash stands for a bit without a name."""
+    named = {}
+    first = 0
+    for word in names.split():
+        name, _, width = word.rstrip(")").partition("(")
+        count = int(width or 1)
+        if name != "-":
+            named[name.upper()] = (2 ** count - 1) << first
+        first += count
+    return named
+
+
+DATA_PATH_FLAGS = bits("""
+    infra_bssid_channel_present infra_address_present awdl_address_present
+    rsdb_support is_umi dualband_support airplay_sink follow_channel_sequence
+    country_code_present channel_map_present airplay_solo_mode_support
+    umi_support unicast_options_present is_realtime rangeable extended_flags
+""")
+EXTENDED_FLAGS = bits("""
+    log_trigger_id_present ranging_discovery_supported rlfc_present
+    is_social_channel_map_supported dynamic_sdb_active stats_present
+    dfs_proxy_support - high_efficiency_support is_sidekick_hub
+    fast_discovery_active wifi_six_e_support ultra_low_latency_infra_support
+    pro_mode_active unknown(2)
+""")
+UNICAST_OPTIONS = bits("""
+    - start_airplay - cache_request - jumpstart_dfs_proxy
+    airplay_on_dfs_channel - - start_sidecar sidecar_bg_request
+    sidecar_fg_request stop_sidecar start_multi_peer_steering
+    start_real_time_mode stop_real_time_mode start_airplay_recovery
+    start_ht_mode stop_ht_mode stop_airplay failed_multi_peer_steering
+    unknown(3) start_rtg_ensemble stop_rtg_ensemble start_airplay_in_rtg_mode
+    stop_airplay_in_rtg_mode start_sidecar_in_rtg_mode
+    stop_sidecar_in_rtg_mode start_remote_camera stop_remote_camera
+""")
+CHANNEL_MAP = bits("channel_6 channel_44 channel_149")

@@ -1,0 +1,563 @@
+"""Makes questions for docs/ASK.md: random and damaged frames and values, every
+cut of good ones, records of every presence, buffers short, exact and long,
+numbers at the limits of their fields, bytes in every form, bad questions, and
+lines around the longest one.
+"""
+
+import re
+from random import Random
+
+import ask
+import awdl
+
+R = Random()
+
+LARGEST = 2 ** 64 - 1
+
+
+def chance(one_in):
+    return R.random() * one_in < 1
+
+
+# Numbers and bytes as words.
+
+def some(limit):
+    """A number for a field, often at its limits."""
+    pick = R.getrandbits(3)
+    if pick == 0:
+        return R.getrandbits(1)
+    if pick == 1:
+        return limit - R.getrandbits(1)
+    if pick == 2:
+        return min(limit, R.getrandbits(8))
+    return R.randrange(limit + 1)
+
+
+def number(limit):
+    """The same as a word, seldom with zeros before it or one too large."""
+    if chance(400):
+        return str(limit + 1)
+    word = str(some(limit))
+    return word.zfill(R.randrange(19, 22)) if chance(200) else word
+
+
+RUN = re.compile(rb"(.)\1{3,}", re.S)
+
+
+def spell_parts(data):
+    """Runs in the short form, the rest cut where it happens."""
+    parts = []
+    at = 0
+    for run in RUN.finditer(data):
+        parts += data[at:run.start()].hex(), f"{data[run.start()]:02X}*{len(run[0])}"
+        at = run.end()
+    rest = data[at:].hex().upper()
+    cut = 2 * R.randrange(len(rest) // 2 + 1)
+    parts += rest[:cut], rest[cut:]
+    return "+".join(filter(None, parts)) or "-"
+
+
+def spell(data):
+    form = R.random()
+    if form < 0.25:
+        return spell_parts(data)
+    if not data:
+        return "-" if form < 0.98 else "AA*0"
+    return data.hex() if form < 0.4 else data.hex().upper()
+
+
+def buffer(size):
+    """Short, exact or long."""
+    room = size + R.choice((-1, 0, 0, 1, 3)) if chance(1.2) else R.randrange(size + 8)
+    if room <= 0:
+        return "-"
+    return f"EE*{room}" if chance(1.3) else spell(R.randbytes(room))
+
+
+# Values, tails and frames.
+
+def data_path_value():
+    flags = R.getrandbits(16) & (R.getrandbits(16) | R.getrandbits(16))
+    data = awdl.little(flags, 2)
+    for bit, width in ((8, 3), (9, 2), (0, 8), (1, 6), (2, 6)):
+        if flags >> bit & 1:
+            data += R.randbytes(width)
+    if flags >> 12 & 1:
+        length = R.choice((4, 8)) if chance(1.1) else some(65535)
+        data += awdl.little(length, 2) + R.randbytes(min(length, 12))
+    if flags >> 15 & 1:
+        extended = R.getrandbits(16)
+        data += awdl.little(extended, 2)
+        for bit, width in ((0, 2), (2, 4), (5, 12)):
+            if extended >> bit & 1:
+                data += R.randbytes(width)
+    return data
+
+
+def synchronization_value():
+    return R.randbytes(R.choice((33, 33, 33, 34, 32, 73)))
+
+
+def damaged(data):
+    """Cut, longer, or with a byte changed, dropped or added."""
+    how = R.randrange(5)
+    at = R.randrange(len(data) + 1)
+    if how == 0:
+        return data[:at]
+    if how == 1:
+        return data + R.randbytes(1 + R.getrandbits(2))
+    if how == 2:
+        return data[:at] + bytes([some(255)]) + data[at + 1:]
+    if how == 3:
+        return data[:at] + data[at + 1:]
+    return data[:at] + R.randbytes(1) + data[at:]
+
+
+def seldom_damaged(data):
+    return damaged(data) if chance(3) else data
+
+
+def value_of(kind):
+    if kind == awdl.DATA_PATH_TYPE:
+        return seldom_damaged(data_path_value())
+    if kind == awdl.SYNCHRONIZATION_TYPE:
+        return synchronization_value()
+    length = R.getrandbits(3)
+    if chance(40):
+        length = R.choice((255, 256, 257))
+    return bytes([some(255)]) * length if chance(2) else R.randbytes(length)
+
+
+def good_tail():
+    tail = b""
+    for _ in range(R.getrandbits(2)):
+        kind = R.choice((12, 12, 4, 4, 0, 5, 11, 13, 255))
+        data = value_of(kind)
+        tail += bytes([kind]) + awdl.little(len(data), 2) + data
+    return tail
+
+
+def tail():
+    pick = R.randrange(12)
+    if pick == 0:
+        return R.randbytes(R.getrandbits(4))
+    if pick == 1:
+        return bytes(R.getrandbits(5))
+    return seldom_damaged(good_tail())
+
+
+def good_frame():
+    """Good as a rule: one of its first two bytes is seldom another."""
+    first = bytes([some(255) if chance(40) else 0x08, some(255) if chance(40) else 0x10])
+    stamps = awdl.little(some(300), 4) + awdl.little(some(300), 4)
+    return first + R.randbytes(2) + (stamps if chance(3) else R.randbytes(8)) + good_tail()
+
+
+def frame():
+    return damaged(good_frame()) if chance(2) else good_frame()
+
+
+def place(data, most=LARGEST):
+    """A place of the walk mostly, else one near it or any."""
+    places = [0]
+    for item in awdl.walk(data):
+        places.append(awdl.behind(item))
+    pick = R.random()
+    if pick < 0.7:
+        return R.choice(places)
+    if pick < 0.9:
+        return R.randrange(len(data) + 4)
+    return some(most)
+
+
+# Records as words.
+
+def words_of(shown):
+    """With the names, without them, or with some."""
+    form = R.random()
+    if form < 0.35:
+        return shown
+    words = shown.split(" ")
+    if form < 0.7:
+        return " ".join([word.partition("=")[2] for word in words])
+    if chance(60):
+        at = R.randrange(len(words))
+        wrong = R.choice(("flags", "at", "", "type", "Flags"))
+        words[at] = f"{wrong}={words[at].partition('=')[2]}"
+    return " ".join([word.partition("=")[2] if chance(2) else word for word in words])
+
+
+def channel():
+    if chance(2):
+        return "single", 2 * R.getrandbits(7) if chance(1.5) else R.getrandbits(8)
+    return "map", R.choice((2 * R.getrandbits(2) + 1, R.getrandbits(4), some(65535)))
+
+
+def field(name, present):
+    """A field of a data path record, its value not 0 as a rule."""
+    if name == "country":
+        return present, some(255), some(255)
+    if name == "channel":
+        return present, *channel()
+    if name == "infra_bssid":
+        return present, R.randbytes(6), some(65535)
+    if name in ("infra", "awdl"):
+        return present, R.randbytes(6)
+    if name in ("extended", "trigger"):
+        return present, some(65535)
+    if name == "stats":
+        return present, some(2 ** 32 - 1), some(2 ** 32 - 1), some(2 ** 32 - 1)
+    return present, some(2 ** 32 - 1)
+
+
+def spoiled(record):
+    """One field changed: its presence, its value or both."""
+    name = R.choice(awdl.DataPath._fields)
+    if name == "flags":
+        return record._replace(flags=record.flags ^ 1 << R.getrandbits(4))
+    present, *old = getattr(record, name)
+    if chance(3):
+        return record._replace(**{name: (1 - present, *old)})
+    return record._replace(**{name: field(name, R.getrandbits(1) if chance(4) else present)})
+
+
+def data_path():
+    """Any presence; consistent, wrong in one or two places, or any record."""
+    presence = R.getrandbits(11)
+    if chance(4):
+        presence &= R.getrandbits(11)
+    fields = [
+        field(name, presence >> at & 1)
+        for at, name in enumerate(awdl.DataPath._fields[1:])
+    ]
+    record = awdl.DataPath(some(65535), *fields)
+    pick = R.random()
+    if pick < 0.8:
+        record = awdl.mend(record)
+    if 0.4 < pick:
+        record = spoiled(record)
+    if 0.7 < pick:
+        record = spoiled(record)
+    return record
+
+
+def data_path_words(record):
+    return words_of(ask.show_data_path(record))
+
+
+def synchronization_words():
+    record = awdl.synchronization_of(bytes([some(255)]) * 33 if chance(5) else R.randbytes(33))
+    if chance(3):
+        record = record._replace(aw_seq_number=some(65535), tx_counter=some(65535))
+    return words_of(ask.show_synchronization(record))
+
+
+def encoding():
+    return R.choice((0, 1, 1, 3)) if chance(1.2) else some(255)
+
+
+def sequence():
+    kind = encoding()
+    data = R.randbytes(32)
+    if kind == 0 and chance(1.3):
+        data = data[:16] + bytes(16)
+    if kind == 1 and chance(1.3):
+        data = bytes(data[at] & 0x3F if at % 2 == 0 else data[at] for at in range(32))
+    if chance(5):
+        data = data[:-1] + b"\0"
+    return awdl.Sequence(kind, data)
+
+
+def sequence_words(record):
+    return words_of(f"encoding={record.encoding} bytes={spell(record.bytes)}")
+
+
+def channel_words():
+    second = 0 if chance(3) else some(255)
+    return words_of(f"encoding={encoding()} first={some(255)} second={second}")
+
+
+def item_words(data):
+    """An item of the walk mostly, else any."""
+    items = list(awdl.walk(data))
+    item = R.choice(items) if items else awdl.Item(0, 0, 0)
+    if chance(4):
+        item = item._replace(length=some(LARGEST) if chance(3) else R.getrandbits(5))
+    if chance(4):
+        item = item._replace(at=some(LARGEST) if chance(3) else R.getrandbits(5))
+    return words_of(ask.show_item(item))
+
+
+def mark_words(data):
+    """A mark that the report of the frame comes to mostly, else any whose line
+    can be shown: a place and the 12 bytes before the tail are one number."""
+    marks = [("too_long",), ("frame",)]
+    while marks[-1] != ("end",):
+        marks.append(awdl.next_line(data, marks[-1])[1])
+    if chance(1.5):
+        return words_of(ask.show_mark(R.choice(marks)))
+    part = awdl.frame_tail(data)[1]
+    items = some(LARGEST - 1)
+    if chance(2):
+        at = place(part, LARGEST - awdl.HEADER_SIZE)
+        return words_of(f"mark=item at={at} items={items}")
+    kind = R.choice(("data_path", "synchronization"))
+    following = words_of(f"next={some(LARGEST)} items={items}")
+    return f"{kind} {item_words(part)} {following}"
+
+
+# Questions. Each maker gives some lines that belong together.
+
+READERS = {
+    "frame_read": good_frame,
+    "frame_tail": good_frame,
+    "dump_start": good_frame,
+    "lines": good_frame,
+    "dump": good_frame,
+    "end": good_tail,
+    "walk": good_tail,
+    "first_data_path": good_tail,
+    "all_data_paths": good_tail,
+    "first_synchronization": good_tail,
+    "all_synchronizations": good_tail,
+    "data_path_read": data_path_value,
+    "synchronization_read": synchronization_value,
+}
+READER_NAMES = [*READERS, "frame_read", *["data_path_read"] * 5]
+STEPS = (
+    "step", "step_with_value", "reader_next", "next_data_path",
+    "reader_first_data_path", "next_synchronization", "reader_first_synchronization",
+)
+SMALL = {
+    "encoding": 255, "encoding_size": 255, "legacy_flags": 255,
+    "support_channel": 255, "channel_bandwidth": 255, "band": 255,
+    "channel_word": 65535, "unicast_options": 2 ** 32 - 1, "extended_flags": 65535,
+}
+SMALL_NAMES = list(SMALL)
+LISTED = [
+    *(f"constants {group}" for group in (
+        "types", "sizes", "subtypes", "data_path_flags", "extended_flags",
+        "unicast_options", "channel_map", "legacy_flags", "flags")),
+    *(f"refusal_number {name}" for name in (
+        "Short", "NotAction", "NotVersion", "UnicastLength", "Encoding", "NoRoom",
+        "Inconsistent", "TooLong", "SentBeforeHandOver", "short", "None")),
+    *(f"entry_size {kind}" for kind in ("simple", "legacy", "opclass", "Simple")),
+]
+
+
+def read():
+    name = R.choice(READER_NAMES)
+    return [f"{name} {spell(seldom_damaged(READERS[name]()))}"]
+
+
+def every_cut():
+    name = R.choice(READER_NAMES)
+    data = READERS[name]()
+    return [f"{name} {spell(data[:length])}" for length in range(len(data) + 1)]
+
+
+def step():
+    data = tail()
+    return [f"{R.choice(STEPS)} {spell(data)} {place(data)}"]
+
+
+def every_place():
+    name = R.choice(STEPS)
+    data = tail()
+    return [f"{name} {spell(data)} {at}" for at in range(len(data) + 2)]
+
+
+def value():
+    data = tail()
+    return [f"value {spell(data)} {item_words(data)}"]
+
+
+def frame_write():
+    data = tail()
+    times = f"phy_tx_time={number(2 ** 32 - 1)} target_tx_time={number(2 ** 32 - 1)}"
+    words = words_of(f"subtype={number(255)} {times}")
+    return [f"frame_write {words} {spell(data)} {buffer(12 + len(data))}"]
+
+
+def write_item():
+    data = R.randbytes(R.getrandbits(4))
+    return [f"write_item {number(255)} {spell(data)} {buffer(3 + len(data))}"]
+
+
+def tx_delta():
+    phy = some(2 ** 32 - 1)
+    target = R.choice((phy, max(phy - 1, 0), phy + 1, some(2 ** 32 - 1)))
+    return [f"tx_delta {phy} {target}"]
+
+
+def data_path_ask():
+    record = data_path()
+    name = R.choice(("consistent", "size", "mend"))
+    return [f"data_path_{name} {data_path_words(record)}"]
+
+
+def data_path_write():
+    record = data_path()
+    size = len(awdl.data_path_bytes(record)) if awdl.is_consistent(record) else R.getrandbits(6)
+    return [f"data_path_write {data_path_words(record)} {buffer(size)}"]
+
+
+def every_buffer():
+    """A record that is mended into every buffer up to its size and two more."""
+    record = awdl.mend(data_path())
+    words = data_path_words(record)
+    size = len(awdl.data_path_bytes(record)) if awdl.is_consistent(record) else 5
+    return [f"data_path_write {words} {spell(bytes(room))}" for room in range(size + 3)]
+
+
+def synchronization_write():
+    return [f"synchronization_write {synchronization_words()} {buffer(33)}"]
+
+
+def sequence_read():
+    at = R.choice((0, 0, 1, 5))
+    data = R.randbytes(at + R.choice((15, 16, 17, 31, 32, 33, 40)))
+    if chance(8):
+        at = some(LARGEST)
+    return [f"sequence_read {spell(data)} {at} {encoding()}"]
+
+
+def sequence_ask():
+    name = R.choice(("consistent", "size"))
+    return [f"sequence_{name} {sequence_words(sequence())}"]
+
+
+def sequence_write():
+    record = sequence()
+    size = 16 if record.encoding == 0 else 32
+    return [f"sequence_write {sequence_words(record)} {buffer(size)}"]
+
+
+def of_channel():
+    return [f"{R.choice(('channel', 'sequence_fixed'))} {channel_words()}"]
+
+
+def small():
+    name = R.choice(SMALL_NAMES)
+    return [f"{name} {number(SMALL[name])}"]
+
+
+def two_words():
+    if chance(2):
+        return [f"has {number(65535)} {1 << R.getrandbits(4) if chance(2) else number(65535)}"]
+    kind, channel_number = channel()
+    return [f"word_of_channel {kind} {channel_number}"]
+
+
+def listed():
+    return [R.choice(LISTED)]
+
+
+def next_line():
+    data = frame()
+    room = 128 if chance(1.02) else R.choice((0, 127, 129))
+    filler = spell(R.randbytes(room)) if chance(4) else f"EE*{room}"
+    return [f"next_line {spell(data)} {mark_words(data)} {filler}"]
+
+
+def around_the_dump():
+    """Frames of about 4,096 bytes, and where their dump starts."""
+    length = 4096 - 15 + R.randrange(-1, 2)
+    there = length + R.randrange(-1, 2)
+    data = f"081003+00*9+07{length & 255:02X}{length >> 8:02X}+55*{there}"
+    return [f"{R.choice(('dump', 'lines', 'dump_start', 'frame_read'))} {data}"]
+
+
+def large():
+    """Bytes up to the most an argument may have, and one more."""
+    length = R.choice((65534, 65535, 65536, 65999, 66000, 66001))
+    data = f"{R.getrandbits(8):02X}*{length}"
+    return [R.choice((
+        f"end {data}", f"dump_start {data}", f"frame_read {data}", f"dump {data}",
+        f"write_item 7 {data} EE*{R.choice((0, 3, 65537, 65538, 65539))}",
+        f"end 0C{length & 255:02X}{length >> 8 & 255:02X}+00*{min(length, 65990)}",
+        f"step 0CFFFF+{data} 0", f"first_data_path 0CFFFF+{data}",
+        f"all_data_paths 0CFFFF+00*65535+0C0200{R.getrandbits(16):04X}",
+    ))]
+
+
+CHARACTERS = "0123456789abcdefABCDEFgxX*+-=_# \t\r\0\x7f\x80\xff"
+WRONG_WORDS = (
+    "0", "-", "1", "00", "single", "x", "-1", "0x1", "2", "256", "65536", "4294967296",
+    "18446744073709551615", "18446744073709551616", "000000000000000000000",
+    "000", "0G", "0*3", "000*3", "0000*3", "00*", "*3", "00**3", "00*3*3", "00*x",
+    "+00", "00+", "00++00", "+", "-+00", "00+-", "--", "0000000000", "00*6", "=0", "flags=",
+)
+
+
+def bad():
+    """A question with a character or a word changed, dropped or added."""
+    line = R.choice(MAKERS)()[0]
+    how = R.randrange(6)
+    at = R.randrange(len(line))
+    if how == 0:
+        return [line[:at] + R.choice(CHARACTERS) + line[at + 1:]]
+    if how == 1:
+        return [line[:at] + line[at + 1:]]
+    if how == 2:
+        return [line[:at] + R.choice(CHARACTERS) + line[at:]]
+    words = line.split(" ")
+    at = R.randrange(len(words))
+    if how == 3:
+        words.pop(at)
+    elif how == 4:
+        words.insert(at, R.choice(words))
+    else:
+        words[at] = R.choice(words if chance(4) else WRONG_WORDS)
+    return [" ".join(words)]
+
+
+def long_line():
+    """A line of about 16,384 characters, of digits or of spaces."""
+    length = ask.LINE_LIMIT + R.randrange(-1, 3)
+    if chance(3):
+        line = f"{R.choice(('end', 'frame_read', 'first_data_path'))} "
+        line += R.choice(("0", "00+", "0C")) * length
+        return [line[:length]]
+    line = R.choice(MAKERS)()[0]
+    if len(line) >= length:
+        return [line]
+    at = R.choice((0, len(line), line.find(" ")))
+    return [line[:at] + " " * (length - len(line)) + line[at:]]
+
+
+def passed_over():
+    return [R.choice(("", " ", "   ", "#", "# frame_read 09", "#x", " #", "\r", "\t"))]
+
+
+MAKERS = [
+    *[read] * 10, *[step] * 6, *[value] * 2, *[frame_write] * 3, *[write_item] * 2,
+    tx_delta, *[data_path_ask] * 8, *[data_path_write] * 6, *[synchronization_write] * 2,
+    *[sequence_read] * 2, *[sequence_ask] * 2, *[sequence_write] * 2, *[of_channel] * 2,
+    *[small] * 2, two_words, listed, *[next_line] * 3,
+]
+
+
+def group():
+    """Lines that one maker gives."""
+    pick = R.random()
+    if pick < 0.93:
+        return R.choice(MAKERS)()
+    if pick < 0.98:
+        return bad()
+    if pick < 0.99:
+        return R.choice((every_cut, every_cut, every_cut, every_place, every_place, every_buffer))()
+    if pick < 0.9990:
+        return passed_over()
+    if pick < 0.9996:
+        return long_line()
+    return R.choice((around_the_dump, large))()
+
+
+def batch(seed, count):
+    """So many lines; the same seed gives the same ones."""
+    R.seed(seed)
+    lines = []
+    while len(lines) < count:
+        lines += group()
+    return [line.encode("latin-1") for line in lines[:count]]
