@@ -200,8 +200,8 @@ def show_bytes(data):
     return data.hex().upper() or "-"
 
 
-def show_value(start, data):
-    return f"start={start} value={show_bytes(data)}"
+def show_value(data):
+    return f"value={show_bytes(data)}"
 
 
 def show_frame(frame):
@@ -289,8 +289,7 @@ def fixed_answer(channel):
 
 
 def tail_answer(data):
-    start, tail = awdl.frame_tail(data)
-    return f"0 start={start} tail={show_bytes(tail)}"
+    return f"0 tail={show_bytes(awdl.frame_tail(data))}"
 
 
 def item_words(item):
@@ -298,7 +297,7 @@ def item_words(item):
 
 
 def item_and_value_words(tail, item):
-    return f"{item_words(item)} {show_value(*awdl.value(tail, item))}"
+    return f"{item_words(item)} {show_value(awdl.value(tail, item))}"
 
 
 def end_words(how, at):
@@ -314,11 +313,11 @@ def step_with_value_answer(tail, at):
     item = awdl.step(tail, at)
     if isinstance(item, awdl.Item):
         return f"0 {item_and_value_words(tail, item)}"
-    return f"0 {end_words(item, at)} {show_value(0, b'')}"
+    return f"0 {end_words(item, at)} {show_value(b'')}"
 
 
 def value_answer(tail, item):
-    return f"0 {show_value(*awdl.value(tail, item))}"
+    return f"0 {show_value(awdl.value(tail, item))}"
 
 
 def end_answer(tail):

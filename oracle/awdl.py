@@ -84,9 +84,8 @@ def read_frame(data):
 
 
 def frame_tail(data):
-    """Where the tail starts, and the tail: nothing where the frame ends before it."""
-    start = min(HEADER_SIZE, len(data))
-    return start, data[start:]
+    """Nothing where the frame ends before it."""
+    return data[HEADER_SIZE:]
 
 
 def write_frame(frame, tail, buffer):
@@ -121,12 +120,10 @@ def behind(item):
 
 
 def value(tail, item):
-    """Where the value starts, and it: of an item that the tail does not hold,
-    the empty part at the tail's start."""
+    """Of an item that the tail does not hold, nothing."""
     if behind(item) > len(tail):
-        return 0, b""
-    start = item.at + ITEM_HEADER_SIZE
-    return start, tail[start:start + item.length]
+        return b""
+    return tail[item.at + ITEM_HEADER_SIZE:behind(item)]
 
 
 def walk(tail, at=0):
@@ -152,7 +149,7 @@ def accepted(tail, at, kind, read):
     for item in walk(tail, at):
         if item.type == kind:
             try:
-                yield item, read(value(tail, item)[1])[1]
+                yield item, read(value(tail, item))[1]
             except Refused:
                 pass
 
@@ -516,7 +513,7 @@ def frame_line(data):
 
 def item_line(data, at, items):
     """A place outside the tail, or with more items than bytes before it, is none of its walk and has no line."""
-    tail = frame_tail(data)[1]
+    tail = frame_tail(data)
     if at > len(tail) or items > at:
         return None
     item = step(tail, at)
@@ -533,7 +530,7 @@ def item_line(data, at, items):
 
 
 def value_line(data, kind, item):
-    part = value(frame_tail(data)[1], item)[1]
+    part = value(frame_tail(data), item)
     try:
         if kind == "data_path":
             size, record = read_data_path(part)

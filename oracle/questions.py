@@ -296,7 +296,7 @@ def mark_words(data):
         marks.append(awdl.next_line(data, marks[-1])[1])
     if chance(1.5):
         return words_of(ask.show_mark(R.choice(marks)))
-    part = awdl.frame_tail(data)[1]
+    part = awdl.frame_tail(data)
     items = some(LARGEST - 1)
     if chance(2):
         at = place(part, LARGEST - awdl.HEADER_SIZE)

@@ -182,15 +182,15 @@ fn searches(
     let bytes = first(given, v[0] as usize);
     let place = v[1] as usize;
     match call {
-        FIRST_DATA_PATH => items::first_data_path(bytes, out, at),
-        NEXT_DATA_PATH => items::next_data_path(bytes, place, out, at),
-        READER_FIRST_DATA_PATH => items::reader_first_data_path(bytes, place, out, at),
-        ALL_DATA_PATHS => items::all_data_paths(bytes, out, at),
-        FIRST_SYNCHRONIZATION => items::first_synchronization(bytes, out, at),
-        NEXT_SYNCHRONIZATION => items::next_synchronization(bytes, place, out, at),
-        READER_FIRST_SYNCHRONIZATION => items::reader_first_synchronization(bytes, place, out, at),
-        _ => items::all_synchronizations(bytes, out, at),
+        ALL_DATA_PATHS => items::all(b'D', bytes, out, at),
+        ALL_SYNCHRONIZATIONS => items::all(b'S', bytes, out, at),
+        _ => items::search(call, kind_of(call), bytes, place, out, at),
     }
+}
+
+// The letter of the record that a search looks for.
+fn kind_of(call: usize) -> u8 {
+    if call < ALL_DATA_PATHS { b'D' } else { b'S' }
 }
 
 fn records(

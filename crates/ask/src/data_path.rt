@@ -209,7 +209,7 @@ fn stats_numbers(s: OptionalStats, v: &mut [u64; 32]) {
     v[27] = wide32(stats.pay_update_coutner);
 }
 
-fn numbers_of(r: DataPathStateTLV, v: &mut [u64; 32]) {
+pub(crate) fn numbers_of(r: DataPathStateTLV, v: &mut [u64; 32]) {
     let flags = r.flags;
     v[0] = wide16(flags.0);
     country_numbers(r.country_code, v);

@@ -48,18 +48,8 @@ pub(crate) fn read(frame: &[u8], out: &mut [u8], at: usize) -> usize {
     }
 }
 
-// The place of a part that reaches to the end of the frame.
-fn start_of(frame: &[u8], part: &[u8]) -> u64 {
-    if frame.len() < part.len() {
-        return 0;
-    }
-    (frame.len() - part.len()) as u64
-}
-
 pub(crate) fn tail(frame: &[u8], out: &mut [u8], at: usize) -> usize {
-    let part = AWDLActionFrame::tail(frame);
-    let behind_start = named(out, at, b"0 start=", start_of(frame, part));
-    named_hex(out, behind_start, b" tail=", part)
+    named_hex(out, at, b"0 tail=", AWDLActionFrame::tail(frame))
 }
 
 pub(crate) fn tx_delta(v: &[u64; 32], out: &mut [u8], at: usize) -> usize {

@@ -37,7 +37,7 @@ pub(crate) fn record_of(v: &[u64; 32]) -> SynchronizationParametersTLV {
     }
 }
 
-fn numbers_of(p: SynchronizationParametersTLV, v: &mut [u64; 32]) {
+pub(crate) fn numbers_of(p: SynchronizationParametersTLV, v: &mut [u64; 32]) {
     let master_address = p.master_address;
     v[0] = wide(p.next_channel);
     v[1] = wide16(p.tx_counter);

@@ -4,6 +4,7 @@ pub mod Walks
 pub mod Searches
 pub mod Beside
 pub mod ByHand
+pub mod OverSlice
 pub mod Thin
 pub mod Sizes
 pub mod Once

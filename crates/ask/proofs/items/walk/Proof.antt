@@ -9,10 +9,10 @@ use lib.ListN.{length}
 use mathlib.Core.Path.{_≡_}
 
 abbrev Inv-loop : tie.InvT-loop
-Inv-loop tail out₀ at behind₀ place₀ items₀ t11 out behind place items = length out ≡ length out₀
+Inv-loop tail out₀ at behind₀ place₀ items₀ t10 t11 out behind place items = length out ≡ length out₀
 
 abbrev μ-loop : tie.MeasureT-loop
-μ-loop tail out₀ at behind₀ place₀ items₀ t11 out behind place items = length tail - place
+μ-loop tail out₀ at behind₀ place₀ items₀ t10 t11 out behind place items = length tail - place
 
 slice-aggregate-text : tie.Need-slice-aggregate-text Inv-loop μ-loop
 slice-aggregate-text c = search needs
@@ -44,14 +44,20 @@ same-length c = search needs
 returns : tie.Need-returns Inv-loop μ-loop
 returns c = search needs
 
-show-value-requires : tie.Need-show-value-requires Inv-loop μ-loop
-show-value-requires c κs = search needs
+slice-aggregate-named-hex : tie.Need-slice-aggregate-named-hex Inv-loop μ-loop
+slice-aggregate-named-hex c = search needs
+
+valued-value-requires : tie.Need-valued-value-requires Inv-loop μ-loop
+valued-value-requires c κs = search needs
+
+named-hex-requires : tie.Need-named-hex-requires Inv-loop μ-loop
+named-hex-requires c κs = search needs
 
 wrapping-add-u64-requires : tie.Need-wrapping-add-u64-requires Inv-loop μ-loop
 wrapping-add-u64-requires c κs = search needs
 
 loop-less : tie.Need-loop-less Inv-loop μ-loop
-loop-less c = step-less _ _ (c .before .before .before .before .before .before .before .before .before .before .before .before .valued-step .ensures) (c .before .before .before .before .before .before .step .given .1)
+loop-less c = step-less _ _ (c .before .before .before .before .before .before .before .before .before .before .before .before .before .before .valued-step .ensures) (c .before .before .before .before .before .before .before .before .step .given .1)
 
 loop-again : tie.Need-loop-again Inv-loop μ-loop
 loop-again c = search needs
@@ -72,7 +78,9 @@ walk-spec =
     named-requires
     same-length
     returns
-    show-value-requires
+    slice-aggregate-named-hex
+    valued-value-requires
+    named-hex-requires
     wrapping-add-u64-requires
     loop-less
     loop-again)

@@ -1,21 +1,18 @@
--- `all_synchronizations` is safe and ends, since what is found lies ahead.
+-- `all` is safe and ends, since what is found lies ahead.
 -- Assumes nothing.
 use Prim.Native.Nat.{_-_}
-use Rattle.ask.proofs.items.all_synchronizations.Statement.{statement}
-use Rattle.ask.proofs.items.all_synchronizations.Tie as tie
-use Rattle.synchronization_parameters.specs.SynchronizationReader.{synchronization}
-use Rattle.tlvs.proofs.Beside.{found-beside}
-use Rattle.tlvs.proofs.Searches.{finds}
+use Rattle.ask.proofs.items.all.Statement.{statement}
+use Rattle.ask.proofs.items.all.Tie as tie
+use Rattle.ask.specs.Ahead.{Ahead}
 use borrow.Author.Needs.{needs}
 use lib.ListN.{length}
-use mathlib.Core.Path.{_≡_}
-use native.Mathlib.Omega.{arith}
+use mathlib.Core.Path.{_≡_, subst}
 
 abbrev Inv-loop : tie.InvT-loop
-Inv-loop tail out₀ at behind₀ place₀ records₀ t11 out behind place records = length out ≡ length out₀
+Inv-loop kind tail out₀ at v₀ behind₀ place₀ records₀ t12 out v behind place records = length out ≡ length out₀
 
 abbrev μ-loop : tie.MeasureT-loop
-μ-loop tail out₀ at behind₀ place₀ records₀ t11 out behind place records = length tail - place
+μ-loop kind tail out₀ at v₀ behind₀ place₀ records₀ t12 out v behind place records = length tail - place
 
 slice-aggregate-text : tie.Need-slice-aggregate-text Inv-loop μ-loop
 slice-aggregate-text c = search needs
@@ -26,8 +23,8 @@ text-requires c κs = search needs
 loop-holds : tie.Need-loop-holds Inv-loop μ-loop
 loop-holds c = search needs
 
-next-synchronization-requires : tie.Need-next-synchronization-requires Inv-loop μ-loop
-next-synchronization-requires c κs = search needs
+next-record-requires : tie.Need-next-record-requires Inv-loop μ-loop
+next-record-requires c κs = search needs
 
 enum-known-found : tie.Need-enum-known-found Inv-loop μ-loop
 enum-known-found c = search needs
@@ -47,20 +44,20 @@ same-length c = search needs
 returns : tie.Need-returns Inv-loop μ-loop
 returns c = search needs
 
-show-synchronization-requires : tie.Need-show-synchronization-requires Inv-loop μ-loop
-show-synchronization-requires c κs = search needs
+show-found-requires : tie.Need-show-found-requires Inv-loop μ-loop
+show-found-requires c κs = search needs
 
 wrapping-add-u64-requires : tie.Need-wrapping-add-u64-requires Inv-loop μ-loop
 wrapping-add-u64-requires c κs = search needs
 
 loop-less : tie.Need-loop-less Inv-loop μ-loop
-loop-less c = omega (arith, finds 0x04 synchronization _ _ (found-beside _ (c .before .before .before .before .before .before .before .before .next-synchronization .ensures) (c .before .before .before .before .before .before .found .given .1)))
+loop-less c = subst (Ahead _ _) (c .before .before .before .before .before .before .before .found .given .1) (c .before .before .before .before .before .before .before .before .before .next-record .ensures)
 
 loop-again : tie.Need-loop-again Inv-loop μ-loop
 loop-again c = search needs
 
-pub all-synchronizations-spec : {M : Type 1} → statement M
-all-synchronizations-spec =
+pub all-spec : {M : Type 1} → statement M
+all-spec =
     tie.close
     (tie.spec
     Inv-loop
@@ -68,14 +65,14 @@ all-synchronizations-spec =
     slice-aggregate-text
     text-requires
     loop-holds
-    next-synchronization-requires
+    next-record-requires
     enum-known-found
     enum-told
     slice-aggregate-named
     named-requires
     same-length
     returns
-    show-synchronization-requires
+    show-found-requires
     wrapping-add-u64-requires
     loop-less
     loop-again)

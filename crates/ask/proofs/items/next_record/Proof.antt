@@ -1,0 +1,35 @@
+-- `next_record` meets its contract: what either search finds lies ahead.
+-- Assumes nothing.
+use Rattle.ask.proofs.Ahead.{data-path-ahead, synchronization-ahead}
+use Rattle.ask.proofs.items.next_record.Statement.{statement}
+use Rattle.ask.proofs.items.next_record.Tie as tie
+use borrow.Author.Needs.{needs}
+
+next-data-path-requires : tie.Need-next-data-path-requires
+next-data-path-requires c κs = search needs
+
+put-data-path-requires : tie.Need-put-data-path-requires
+put-data-path-requires c κs = search needs
+
+returns : tie.Need-returns
+returns c = data-path-ahead _ _ (c .before .before .next-data-path .result) (c .before .before .next-data-path .ensures) (c .put-data-path .ensures)
+
+next-synchronization-requires : tie.Need-next-synchronization-requires
+next-synchronization-requires c κs = search needs
+
+put-synchronization-requires : tie.Need-put-synchronization-requires
+put-synchronization-requires c κs = search needs
+
+returns-2 : tie.Need-returns-2
+returns-2 c = synchronization-ahead _ _ (c .before .before .next-synchronization .ensures) (c .put-synchronization .ensures)
+
+pub next-record-spec : {M : Type 1} → statement M
+next-record-spec =
+    tie.close
+    (tie.spec
+    next-data-path-requires
+    put-data-path-requires
+    returns
+    next-synchronization-requires
+    put-synchronization-requires
+    returns-2)
