@@ -27,20 +27,20 @@ byteAt s at = getD s at 0
 abbrev wordAt : List ℕ → ℕ → ℕ
 wordAt s at = byteAt s at + 256 * byteAt s (at + 1)
 
--- the fields at their offsets
-abbrev pub fieldsOf : List ℕ → SynchronizationParametersTLV
-fieldsOf s =
+-- the bytes at their offsets, and some words
+abbrev worded : List ℕ → (a b c d e f g h i : ℕ) → SynchronizationParametersTLV
+worded s a b c d e f g h i =
     record {
       «next_channel» = byteAt s 0;
-      «tx_counter» = wordAt s 1;
+      «tx_counter» = a;
       «master_channel» = byteAt s 3;
       «guard_time» = byteAt s 4;
-      «aw_period» = wordAt s 5;
-      «af_period» = wordAt s 7;
-      «awdl_flags» = wordAt s 9;
-      «aw_ext_length» = wordAt s 11;
-      «aw_common_length» = wordAt s 13;
-      «remaining_aw_length» = wordAt s 15;
+      «aw_period» = b;
+      «af_period» = c;
+      «awdl_flags» = d;
+      «aw_ext_length» = e;
+      «aw_common_length» = f;
+      «remaining_aw_length» = g;
       «min_ext_count» = byteAt s 17;
       «max_multicast_ext_count» = byteAt s 18;
       «max_unicast_ext_count» = byteAt s 19;
@@ -48,9 +48,13 @@ fieldsOf s =
       «master_address» =
           record { 0 = byteAt s 21; 1 = byteAt s 22; 2 = byteAt s 23; 3 = byteAt s 24; 4 = byteAt s 25; 5 = byteAt s 26 };
       «presence_mode» = byteAt s 27;
-      «aw_seq_number» = wordAt s 29;
-      «ap_beacon_alignment_delta» = wordAt s 31;
+      «aw_seq_number» = h;
+      «ap_beacon_alignment_delta» = i;
     }
+
+-- the fields at their offsets
+abbrev pub fieldsOf : List ℕ → SynchronizationParametersTLV
+fieldsOf s = worded s (wordAt s 1) (wordAt s 5) (wordAt s 7) (wordAt s 9) (wordAt s 11) (wordAt s 13) (wordAt s 15) (wordAt s 29) (wordAt s 31)
 
 pub inside : (s : List ℕ) → 33 ≤ length s → (k : ℕ) → leb k 33 ≡ true → leb k (length s) ≡ true
 inside s h k e = le-leb k (length s) (omega (arith, leb-true k 33 e))
@@ -61,6 +65,12 @@ all-fields s h =
     let bytes : List ℕ = from s 0 0 33 ++ drop 33 s in
     let enough : 33 ≤ length bytes = omega arith in
     subst (λ (l : List ℕ). synchronization l 0 ≡ read (fieldsOf l) 33) (opened 33 s h) (simp (inside bytes enough, add-zero))
+
+-- the same, with each word by whatever has been shown to be equal to it
+pub all-words : (s : List ℕ) → 33 ≤ length s → {a b c d e f g h i : ℕ}
+    → a ≡ wordAt s 1 → b ≡ wordAt s 5 → c ≡ wordAt s 7 → d ≡ wordAt s 9 → e ≡ wordAt s 11 → f ≡ wordAt s 13 → g ≡ wordAt s 15 → h ≡ wordAt s 29 → i ≡ wordAt s 31
+    → synchronization s 0 ≡ read (worded s a b c d e f g h i) 33
+all-words s enough ea eb ec ed ee ef eg eh ei = rw (ea, eb, ec, ed, ee, ef, eg, eh, ei) (all-fields s enough)
 
 -- the width of each field
 abbrev pub widths : List ℕ

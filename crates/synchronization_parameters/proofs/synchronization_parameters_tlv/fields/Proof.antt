@@ -1,6 +1,6 @@
--- `fields` meets its contract: the bytes and words that it takes are those of `fieldsOf`, which is read where 33 bytes stand.
+-- `fields` meets its contract: the bytes and words that it takes are those that are read where 33 bytes stand.
 -- Assumes nothing.
-use Rattle.synchronization_parameters.proofs.Whole.{all-fields}
+use Rattle.synchronization_parameters.proofs.Whole.{all-words}
 use Rattle.synchronization_parameters.proofs.synchronization_parameters_tlv.fields.Statement.{statement}
 use Rattle.synchronization_parameters.proofs.synchronization_parameters_tlv.fields.Tie as tie
 use borrow.Author.Needs.{needs}
@@ -11,19 +11,11 @@ returns c =
     let c2 = c7 .before .before .before .before .before in
     let c1 = c2 .before .before .before in
     let start = c1 .before .before .before in
-    rw (
-      c1 .word .ensures,
-      c2 .word2 .ensures,
-      c7 .before .before .before .before .word3 .ensures,
-      c7 .before .before .before .word4 .ensures,
-    )
-    (rw (
-      c7 .before .before .word5 .ensures,
-      c7 .before .word6 .ensures,
-      c7 .word7 .ensures,
-      c .before .word8 .ensures,
-      c .word9 .ensures,
-    ) (all-fields (start .args .s .now) (start .pre)))
+    all-words (start .args .s .now) (start .pre)
+    (c1 .word .ensures) (c2 .word2 .ensures)
+    (c7 .before .before .before .before .word3 .ensures) (c7 .before .before .before .word4 .ensures) (c7 .before .before .word5 .ensures)
+    (c7 .before .word6 .ensures) (c7 .word7 .ensures)
+    (c .before .word8 .ensures) (c .word9 .ensures)
 
 pub fields-spec : {M : Type 1} → statement M
 fields-spec =
