@@ -1,8 +1,17 @@
-# What the launchers share. A launcher sets `home` to the repository's folder, reads this file and calls `launch PROGRAM`.
+# What the launchers share. A launcher sets `home` to the repository's folder, reads this file, calls `open_file FILE` where it
+# is given one, and then `launch PROGRAM`.
 
 fail() {
     echo "$(basename "$0"): $1" >&2
-    exit 1
+    exit "${2:-1}"
+}
+
+# Has the program read a file.
+open_file() {
+    if [ -d "$1" ] || [ ! -r "$1" ]; then
+        fail "cannot read $1" 2
+    fi
+    exec <"$1"
 }
 
 # Each crate by itself, in the order of the layers, so that one sees how far it is. What the prover says of a crate is

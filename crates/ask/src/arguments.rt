@@ -1,17 +1,24 @@
 // The arguments of a question: numbers into places of an array, bytes into one of two buffers.
-use crate::fields::list;
-use crate::fields::number_at;
+use crate::calls::put_letters;
+use crate::fields::list_of;
+use crate::fields::mark_list;
+use crate::fields::number_of;
+use crate::fields::number_of_word;
+use crate::fields::put_lists;
+use crate::numbers::Numbers;
+use crate::numbers::none;
 use crate::words::between;
 use crate::words::first;
 use crate::words::letter;
-use crate::words::number_in;
+use crate::words::nth;
 use crate::words::place_of;
-use crate::words::put_list;
+use crate::words::put_text;
 use crate::words::rest;
 use crate::words::skip;
 use crate::words::word_end;
 use text::Decimal;
 use text::HexBytes;
+use wire::ReadAddress;
 
 fn number(word: &[u8], most: u64) -> Decimal {
     match text::decimal_of(word) {
@@ -25,20 +32,20 @@ fn number(word: &[u8], most: u64) -> Decimal {
     }
 }
 
+fn address_number(bytes: &[u8; 6]) -> Decimal {
+    match wire::address_at(bytes, 0) {
+        ReadAddress::Read(address, _) => Decimal::Number(number_of(address)),
+        ReadAddress::Refused(_) => Decimal::No,
+    }
+}
+
 fn address(word: &[u8]) -> Decimal {
     if word.len() != 12 {
         return Decimal::No;
     }
     let mut bytes = [0u8; 6];
     match text::hex_into(&mut bytes, 0, word) {
-        HexBytes::Put(_) => Decimal::Number(crate::fields::number_of(wire::MACAddress(
-            bytes[0],
-            bytes[1],
-            bytes[2],
-            bytes[3],
-            bytes[4],
-            bytes[5],
-        ))),
+        HexBytes::Put(_) => address_number(&bytes),
         HexBytes::NoRoom => Decimal::No,
         HexBytes::No => Decimal::No,
     }
@@ -109,25 +116,8 @@ fn channel_most(kind: u64) -> u64 {
     if kind == 0 { 255 } else { 65535 }
 }
 
-fn name(kind: u8, word: &[u8]) -> Decimal {
-    match kind {
-        b'k' => number_in(b"single map", word),
-        b'e' => number_in(b"simple legacy opclass", word),
-        b'm' => number_in(b"too_long frame item data_path synchronization end", word),
-        b'n' => number_in(
-            b"Short NotAction NotVersion UnicastLength Encoding NoRoom Inconsistent TooLong SentBeforeHandOver",
-            word,
-        ),
-        b't' => number_in(
-            b"types sizes subtypes data_path_flags extended_flags unicast_options channel_map legacy_flags",
-            word,
-        ),
-        _ => Decimal::No,
-    }
-}
-
 // The number that a word stands for, by its field's kind. A channel is as wide as the kind before it says.
-fn value(kind: u8, before: u64, word: &[u8], given: &mut [u8], lent: &mut [u8]) -> Decimal {
+fn value(kind: u8, before: u64, word: &[u8], buf: &mut [u8]) -> Decimal {
     match kind {
         b'1' => number(word, 255),
         b'2' => number(word, 65535),
@@ -136,11 +126,10 @@ fn value(kind: u8, before: u64, word: &[u8], given: &mut [u8], lent: &mut [u8]) 
         b'p' => number(word, 1),
         b'c' => number(word, channel_most(before)),
         b'a' => address(word),
-        b'g' => bytes(word, given),
-        b's' => exactly(32, bytes(word, given)),
-        b'l' => bytes(word, lent),
-        b'o' => exactly(128, bytes(word, lent)),
-        _ => name(kind, word),
+        b'g' | b'l' => bytes(word, buf),
+        b's' => exactly(32, bytes(word, buf)),
+        b'o' => exactly(128, bytes(word, buf)),
+        _ => number_of_word(kind, word),
     }
 }
 
@@ -150,77 +139,48 @@ fn unnamed<'a>(word: &'a [u8], name: &[u8]) -> &'a [u8] {
     if sign == word.len() {
         return word;
     }
-    if 0 < name.len() {
-        if text::same(first(word, sign), name) {
-            return between(word, sign + 1, word.len());
-        }
+    if text::same(first(word, sign + 1), name) {
+        return between(word, sign + 1, word.len());
     }
     first(word, 0)
 }
 
-// How far the line has been read, and how many numbers were found.
+// How far the line has been read, and the numbers that were found.
 pub(crate) struct Taken {
     pub(crate) right: bool,
     pub(crate) at: usize,
-    pub(crate) numbers: usize,
+    pub(crate) numbers: Numbers,
 }
 
 fn wrong() -> Taken {
     Taken {
         right: false,
         at: 0,
-        numbers: 0,
+        numbers: none(),
     }
 }
 
-fn before(v: &[u64; 32], i: usize) -> u64 {
-    if 0 < i {
-        return number_at(v, i - 1);
-    }
-    0
-}
-
-fn field(
-    line: &[u8],
-    taken: Taken,
-    field: &[u8],
-    v: &mut [u64; 32],
-    given: &mut [u8],
-    lent: &mut [u8],
-) -> Taken {
-    let i = taken.numbers;
+fn field(line: &[u8], taken: Taken, field: &[u8], buf: &mut [u8]) -> Taken {
+    let numbers = taken.numbers;
     let start = skip(line, taken.at);
     let end = word_end(line, start);
     let word = unnamed(between(line, start, end), rest(field));
-    match value(letter(field, 0), before(v, i), word, given, lent) {
-        Decimal::Number(n) => {
-            if i < 32 {
-                v[i] = n;
-                return Taken {
-                    right: taken.right,
-                    at: end,
-                    numbers: i + 1,
-                };
-            }
-            wrong()
-        }
+    match value(letter(field, 0), numbers.last(), word, buf) {
+        Decimal::Number(n) => Taken {
+            right: true,
+            at: end,
+            numbers: numbers.and(n),
+        },
         Decimal::No => wrong(),
     }
 }
 
-fn fields(
-    line: &[u8],
-    taken: Taken,
-    list: &[u8],
-    v: &mut [u64; 32],
-    given: &mut [u8],
-    lent: &mut [u8],
-) -> Taken {
+fn fields(line: &[u8], taken: Taken, list: &[u8], buf: &mut [u8]) -> Taken {
     let mut now = taken;
     let mut from = 0;
     while from < list.len() {
         let end = word_end(list, from);
-        now = field(line, now, between(list, from, end), v, given, lent);
+        now = field(line, now, between(list, from, end), buf);
         if !now.right {
             return now;
         }
@@ -229,67 +189,86 @@ fn fields(
     now
 }
 
-fn record(
-    line: &[u8],
-    taken: Taken,
-    record: u8,
-    v: &mut [u64; 32],
-    given: &mut [u8],
-    lent: &mut [u8],
-) -> Taken {
-    let mut buf = [0u8; 512];
-    let n = list(record, &mut buf);
-    fields(line, taken, put_list(&buf, n), v, given, lent)
-}
-
-// The numbers that stand behind a mark's word.
-fn mark(line: &[u8], taken: Taken, v: &mut [u64; 32], given: &mut [u8], lent: &mut [u8]) -> Taken {
-    match before(v, taken.numbers) {
-        2 => record(line, taken, b'x', v, given, lent),
-        3 => record(line, taken, b'y', v, given, lent),
-        4 => record(line, taken, b'y', v, given, lent),
-        _ => taken,
+// A letter that stands for no list is a field without a name.
+fn list_or_letter<'a>(list: &'a [u8], letter: &'a [u8]) -> &'a [u8] {
+    if list.len() == 0 {
+        return letter;
     }
+    list
 }
 
-fn argument(
-    line: &[u8],
-    taken: Taken,
-    kind: u8,
-    v: &mut [u64; 32],
-    given: &mut [u8],
-    lent: &mut [u8],
-) -> Taken {
-    let behind = record(line, taken, kind, v, given, lent);
-    if kind == b'm' {
-        if behind.right {
-            return mark(line, behind, v, given, lent);
+fn record(line: &[u8], taken: Taken, kind: u8, buf: &mut [u8]) -> Taken {
+    let letter = [kind];
+    let mut lists = [0u8; 2048];
+    let n = put_lists(&mut lists);
+    let list = list_or_letter(list_of(put_text(&lists, n), kind), &letter);
+    fields(line, taken, list, buf)
+}
+
+// The list of what stands behind a mark's word, or 0.
+fn list_behind(kind: u8, taken: Taken) -> u8 {
+    let numbers = taken.numbers;
+    if kind == b'M' {
+        if taken.right {
+            return mark_list(numbers.last());
         }
     }
-    behind
+    0
 }
 
-// Whether the line has the arguments of a signature, and nothing behind them.
-pub(crate) fn arguments(
-    line: &[u8],
-    from: usize,
-    signature: &[u8],
-    v: &mut [u64; 32],
-    given: &mut [u8],
-    lent: &mut [u8],
-) -> bool {
+fn argument_into(line: &[u8], taken: Taken, kind: u8, buf: &mut [u8]) -> Taken {
+    let behind = record(line, taken, kind, buf);
+    let list = list_behind(kind, behind);
+    if list == 0 {
+        return behind;
+    }
+    record(line, behind, list, buf)
+}
+
+// The bytes of an argument are what is given to the call, or what is lent to it.
+fn argument(line: &[u8], taken: Taken, kind: u8, given: &mut [u8], lent: &mut [u8]) -> Taken {
+    match kind {
+        b'l' | b'o' => argument_into(line, taken, kind, lent),
+        _ => argument_into(line, taken, kind, given),
+    }
+}
+
+// The line is right where it has the arguments of a signature, and nothing behind them.
+fn all(line: &[u8], from: usize, signature: &[u8], given: &mut [u8], lent: &mut [u8]) -> Taken {
     let mut taken = Taken {
         right: true,
         at: from,
-        numbers: 0,
+        numbers: none(),
     };
     let mut i = 0;
     while i < signature.len() {
-        taken = argument(line, taken, signature[i], v, given, lent);
+        taken = argument(line, taken, signature[i], given, lent);
         if !taken.right {
-            return false;
+            return taken;
         }
         i += 1;
     }
-    skip(line, taken.at) == line.len()
+    if skip(line, taken.at) == line.len() {
+        return taken;
+    }
+    wrong()
+}
+
+// The arguments of a call, from a place of the line on.
+pub(crate) fn arguments(
+    line: &[u8],
+    from: usize,
+    call: usize,
+    given: &mut [u8],
+    lent: &mut [u8],
+) -> Taken {
+    let mut letters = [0u8; 2048];
+    let n = put_letters(&mut letters);
+    all(
+        line,
+        from,
+        nth(put_text(&letters, n), call, b' '),
+        given,
+        lent,
+    )
 }

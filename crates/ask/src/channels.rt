@@ -1,12 +1,15 @@
 // Channels, their encodings, and sequences of sixteen.
-use crate::fields::byte;
-use crate::fields::wide;
-use crate::output::named;
+use crate::calls;
+use crate::fields::show_said;
+use crate::numbers::Said;
+use crate::numbers::byte_at;
+use crate::numbers::none;
+use crate::numbers::one;
+use crate::numbers::placed;
+use crate::numbers::refused;
+use crate::numbers::size_at;
+use crate::numbers::sized;
 use crate::output::named_hex;
-use crate::output::number;
-use crate::output::refusal;
-use crate::output::size;
-use crate::output::text;
 use crate::words::first;
 use channel_sequence::Channel;
 use channel_sequence::ChannelEncoding;
@@ -16,89 +19,45 @@ use channel_sequence::Corrected;
 use channel_sequence::Fixed;
 use channel_sequence::FoundEncoding;
 use channel_sequence::LegacyFlags;
-use wire::Place;
+use wire::Size;
 
-pub(crate) fn sequence_of(v: &[u64; 32], given: &[u8]) -> ChannelSequence {
+fn sequence_of(v: &[u64; 32], given: &[u8]) -> ChannelSequence {
     let mut bytes = [0u8; 32];
     wire::put_slice(&mut bytes, 0, first(given, 32));
     ChannelSequence {
-        encoding: byte(v[0]),
+        encoding: byte_at(v, 0),
         bytes,
     }
 }
 
-fn show_sequence(out: &mut [u8], at: usize, s: ChannelSequence) -> usize {
-    let bytes = s.bytes;
-    let behind_encoding = named(out, at, b" encoding=", wide(s.encoding));
-    named_hex(out, behind_encoding, b" bytes=", &bytes)
-}
-
-fn place(out: &mut [u8], at: usize, answer: Place) -> usize {
-    match answer {
-        Place::At(n) => named(out, at, b"0 next=", n as u64),
-        Place::Refused(why) => {
-            let behind_why = number(out, at, refusal(why));
-            text(out, behind_why, b" next=0")
-        }
-    }
-}
-
-pub(crate) fn read(s: &[u8], v: &[u64; 32], out: &mut [u8], at: usize) -> usize {
-    let read = ChannelSequence::read(s, v[1] as usize, byte(v[2]));
-    let answer = read.answer;
-    let sequence = read.sequence;
-    let behind_place = place(out, at, answer);
-    show_sequence(out, behind_place, sequence)
-}
-
-pub(crate) fn consistent(v: &[u64; 32], given: &[u8], out: &mut [u8], at: usize) -> usize {
-    let sequence = sequence_of(v, given);
-    match sequence.consistent() {
-        Consistency::Yes => text(out, at, b"0 consistent=1"),
-        Consistency::No => text(out, at, b"0 consistent=0"),
-        Consistency::Refused(why) => {
-            let behind_why = number(out, at, refusal(why));
-            text(out, behind_why, b" consistent=0")
-        }
-    }
-}
-
-pub(crate) fn sequence_size(v: &[u64; 32], given: &[u8], out: &mut [u8], at: usize) -> usize {
-    let sequence = sequence_of(v, given);
-    size(out, at, sequence.size())
-}
-
 fn channel_of(v: &[u64; 32]) -> Channel {
     Channel {
-        encoding: byte(v[0]),
-        first: byte(v[1]),
-        second: byte(v[2]),
+        encoding: byte_at(v, 0),
+        first: byte_at(v, 1),
+        second: byte_at(v, 2),
     }
 }
 
-fn made(answer: Fixed) -> u64 {
-    match answer {
-        Fixed::Made => 0,
-        Fixed::Refused(why) => refusal(why),
+pub(crate) fn write(v: &[u64; 32], given: &[u8], buf: &mut [u8]) -> Size {
+    sequence_of(v, given).write(buf)
+}
+
+fn size(v: &[u64; 32], given: &[u8]) -> Said {
+    sized(sequence_of(v, given).size())
+}
+
+fn consistent(v: &[u64; 32], given: &[u8]) -> Said {
+    match sequence_of(v, given).consistent() {
+        Consistency::Yes => one(1),
+        Consistency::No => one(0),
+        Consistency::Refused(why) => refused(why),
     }
 }
 
-pub(crate) fn fixed(v: &[u64; 32], out: &mut [u8], at: usize) -> usize {
-    let fixed = ChannelSequence::fixed_channel_sequence(channel_of(v));
-    let answer = fixed.answer;
-    let sequence = fixed.sequence;
-    let behind_why = number(out, at, made(answer));
-    show_sequence(out, behind_why, sequence)
-}
-
-pub(crate) fn corrected(v: &[u64; 32], out: &mut [u8], at: usize) -> usize {
-    let channel = channel_of(v);
-    match channel.channel() {
-        Corrected::Channel(n) => named(out, at, b"0 channel=", wide(n)),
-        Corrected::Refused(why) => {
-            let behind_why = number(out, at, refusal(why));
-            text(out, behind_why, b" channel=0")
-        }
+fn corrected(v: &[u64; 32]) -> Said {
+    match channel_of(v).channel() {
+        Corrected::Channel(n) => one(n as u64),
+        Corrected::Refused(why) => refused(why),
     }
 }
 
@@ -110,49 +69,72 @@ fn encoding_number(known: ChannelEncoding) -> u64 {
     }
 }
 
-pub(crate) fn encoding(v: &[u64; 32], out: &mut [u8], at: usize) -> usize {
-    match ChannelEncoding::from_bits(byte(v[0])) {
-        FoundEncoding::Known(known) => named(out, at, b"0 encoding=", encoding_number(known)),
-        FoundEncoding::Refused(why) => {
-            let behind_why = number(out, at, refusal(why));
-            text(out, behind_why, b" encoding=0")
-        }
+fn encoding(bits: u8) -> Said {
+    match ChannelEncoding::from_bits(bits) {
+        FoundEncoding::Known(known) => one(encoding_number(known)),
+        FoundEncoding::Refused(why) => refused(why),
     }
 }
 
-pub(crate) fn encoding_size(v: &[u64; 32], out: &mut [u8], at: usize) -> usize {
-    size(out, at, ChannelEncoding::size(byte(v[0])))
-}
-
-fn encoding_of(n: u64) -> ChannelEncoding {
-    match n {
+fn encoding_of(kind: u8) -> ChannelEncoding {
+    match kind {
         0 => ChannelEncoding::Simple,
         1 => ChannelEncoding::Legacy,
         _ => ChannelEncoding::OpClass,
     }
 }
 
-pub(crate) fn entry_size(v: &[u64; 32], out: &mut [u8], at: usize) -> usize {
-    let known = encoding_of(v[0]);
-    named(out, at, b"0 size=", known.entry_size() as u64)
+pub(crate) fn answer(call: usize, v: &[u64; 32], given: &[u8]) -> Said {
+    let bits = byte_at(v, 0);
+    match call {
+        calls::SEQUENCE_CONSISTENT => consistent(v, given),
+        calls::SEQUENCE_SIZE => size(v, given),
+        calls::CHANNEL => corrected(v),
+        calls::ENCODING => encoding(bits),
+        calls::ENCODING_SIZE => sized(ChannelEncoding::size(bits)),
+        calls::ENTRY_SIZE => one(encoding_of(bits).entry_size() as u64),
+        calls::LEGACY_FLAGS => one(LegacyFlags::from_bits(bits).0 as u64),
+        calls::SUPPORT_CHANNEL => one(LegacyFlags(bits).support_channel() as u64),
+        calls::CHANNEL_BANDWIDTH => one(LegacyFlags(bits).channel_bandwidth() as u64),
+        _ => one(LegacyFlags(bits).band() as u64),
+    }
 }
 
-pub(crate) fn legacy_flags(v: &[u64; 32], out: &mut [u8], at: usize) -> usize {
-    let kept = LegacyFlags::from_bits(byte(v[0]));
-    named(out, at, b"0 bits=", wide(kept.0))
+// A sequence stands behind a refusal too, and its bytes stand behind its encoding.
+fn show_sequence(
+    out: &mut [u8],
+    at: usize,
+    of_number: u8,
+    said: Said,
+    sequence: ChannelSequence,
+) -> usize {
+    let bytes = sequence.bytes;
+    let with_encoding = Said {
+        why: said.why,
+        number: said.number,
+        record: none().byte(sequence.encoding),
+    };
+    let behind_encoding = show_said(out, at, of_number, b'E', with_encoding);
+    named_hex(out, behind_encoding, b" bytes=", &bytes)
 }
 
-pub(crate) fn support_channel(v: &[u64; 32], out: &mut [u8], at: usize) -> usize {
-    let flags = LegacyFlags(byte(v[0]));
-    named(out, at, b"0 bits=", wide(flags.support_channel()))
+pub(crate) fn read(s: &[u8], v: &[u64; 32], out: &mut [u8], at: usize) -> usize {
+    let read = ChannelSequence::read(s, size_at(v, 1), byte_at(v, 2));
+    let answer = read.answer;
+    let sequence = read.sequence;
+    show_sequence(out, at, b'A', placed(answer), sequence)
 }
 
-pub(crate) fn channel_bandwidth(v: &[u64; 32], out: &mut [u8], at: usize) -> usize {
-    let flags = LegacyFlags(byte(v[0]));
-    named(out, at, b"0 bits=", wide(flags.channel_bandwidth()))
+fn made(answer: Fixed) -> Said {
+    match answer {
+        Fixed::Made => one(0),
+        Fixed::Refused(why) => refused(why),
+    }
 }
 
-pub(crate) fn band(v: &[u64; 32], out: &mut [u8], at: usize) -> usize {
-    let flags = LegacyFlags(byte(v[0]));
-    named(out, at, b"0 bits=", wide(flags.band()))
+pub(crate) fn fixed(v: &[u64; 32], out: &mut [u8], at: usize) -> usize {
+    let fixed = ChannelSequence::fixed_channel_sequence(channel_of(v));
+    let answer = fixed.answer;
+    let sequence = fixed.sequence;
+    show_sequence(out, at, b'-', made(answer), sequence)
 }

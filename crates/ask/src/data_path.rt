@@ -1,20 +1,21 @@
 // Data path records.
+use crate::calls;
 use crate::fields::address_of;
 use crate::fields::byte;
-use crate::fields::flag;
 use crate::fields::long;
-use crate::fields::number_of;
-use crate::fields::show;
-use crate::fields::show_one;
-use crate::fields::wide;
-use crate::fields::wide16;
-use crate::fields::wide32;
 use crate::fields::word;
-use crate::output::named;
-use crate::output::number;
-use crate::output::refusal;
-use crate::output::size;
-use crate::output::text;
+use crate::numbers::Numbers;
+use crate::numbers::Said;
+use crate::numbers::byte_at;
+use crate::numbers::flag_at;
+use crate::numbers::long_at;
+use crate::numbers::none;
+use crate::numbers::number_at;
+use crate::numbers::one;
+use crate::numbers::refused;
+use crate::numbers::sized;
+use crate::numbers::word_at;
+use crate::numbers::yes_or_no;
 use data_path_state::ChannelMap;
 use data_path_state::CountryCode;
 use data_path_state::DataPathChannel;
@@ -32,255 +33,207 @@ use data_path_state::OptionalTriggerId;
 use data_path_state::OptionalWord;
 use data_path_state::ReadDataPathState;
 use data_path_state::UnicastOptions;
+use wire::Size;
 
-pub(crate) fn channel_of(kind: u64, n: u64) -> DataPathChannel {
+fn channel_of(kind: u64, n: u64) -> DataPathChannel {
     if kind == 0 {
         return DataPathChannel::SingleChannel(byte(n));
     }
     DataPathChannel::ChannelMap(ChannelMap(word(n)))
 }
 
-fn country(present: u64, first: u64, second: u64) -> CountryCode {
+fn country(v: &[u64; 32]) -> CountryCode {
     CountryCode {
-        present: present == 1,
-        first: byte(first),
-        second: byte(second),
+        present: flag_at(v, 1),
+        first: byte_at(v, 2),
+        second: byte_at(v, 3),
     }
 }
 
-fn channel(present: u64, kind: u64, n: u64) -> OptionalChannel {
-    let channel = channel_of(kind, n);
+fn channel(v: &[u64; 32]) -> OptionalChannel {
     OptionalChannel {
-        present: present == 1,
-        channel,
+        present: flag_at(v, 4),
+        channel: channel_of(number_at(v, 5), number_at(v, 6)),
     }
 }
 
-fn infra(present: u64, address: u64, n: u64) -> InfraBssidChannel {
-    let bssid = address_of(address);
+fn infra(v: &[u64; 32]) -> InfraBssidChannel {
     InfraBssidChannel {
-        present: present == 1,
-        bssid,
-        channel: word(n),
+        present: flag_at(v, 7),
+        bssid: address_of(number_at(v, 8)),
+        channel: word_at(v, 9),
     }
 }
 
-fn address(present: u64, n: u64) -> OptionalAddress {
-    let address = address_of(n);
+fn address(present: bool, n: u64) -> OptionalAddress {
     OptionalAddress {
-        present: present == 1,
-        address,
+        present,
+        address: address_of(n),
     }
 }
 
-fn options(present: u64, n: u64) -> OptionalOptions {
-    let options = UnicastOptions(long(n));
+fn options(v: &[u64; 32]) -> OptionalOptions {
     OptionalOptions {
-        present: present == 1,
-        options,
+        present: flag_at(v, 14),
+        options: UnicastOptions(long_at(v, 15)),
     }
 }
 
-fn optional(present: u64, n: u64) -> OptionalWord {
+fn optional(present: bool, n: u64) -> OptionalWord {
     OptionalWord {
-        present: present == 1,
+        present,
         word: long(n),
     }
 }
 
-fn extended(present: u64, n: u64) -> OptionalExtendedFlags {
-    let flags = DataPathExtendedFlags(word(n));
+fn extended(v: &[u64; 32]) -> OptionalExtendedFlags {
     OptionalExtendedFlags {
-        present: present == 1,
-        flags,
+        present: flag_at(v, 18),
+        flags: DataPathExtendedFlags(word_at(v, 19)),
     }
 }
 
-fn trigger(present: u64, n: u64) -> OptionalTriggerId {
+fn trigger(v: &[u64; 32]) -> OptionalTriggerId {
     OptionalTriggerId {
-        present: present == 1,
-        id: word(n),
+        present: flag_at(v, 22),
+        id: word_at(v, 23),
     }
 }
 
-fn stats(present: u64, msec: u64, counter: u64, updates: u64) -> OptionalStats {
-    let stats = DataPathStats {
-        msec_since_activation: long(msec),
-        aw_seq_counter: long(counter),
-        pay_update_coutner: long(updates),
-    };
+fn stats(v: &[u64; 32]) -> OptionalStats {
     OptionalStats {
-        present: present == 1,
-        stats,
+        present: flag_at(v, 24),
+        stats: DataPathStats {
+            msec_since_activation: long_at(v, 25),
+            aw_seq_counter: long_at(v, 26),
+            pay_update_coutner: long_at(v, 27),
+        },
     }
 }
 
-pub(crate) fn record_of(v: &[u64; 32]) -> DataPathStateTLV {
+fn record_of(v: &[u64; 32]) -> DataPathStateTLV {
     DataPathStateTLV {
-        flags: DataPathFlags(word(v[0])),
-        country_code: country(v[1], v[2], v[3]),
-        channel_map: channel(v[4], v[5], v[6]),
-        infra_bssid_channel: infra(v[7], v[8], v[9]),
-        infra_address: address(v[10], v[11]),
-        awdl_address: address(v[12], v[13]),
-        unicast_options: options(v[14], v[15]),
-        unicast_options_ext: optional(v[16], v[17]),
-        extended_flags: extended(v[18], v[19]),
-        rlfc: optional(v[20], v[21]),
-        log_trigger_id: trigger(v[22], v[23]),
-        stats: stats(v[24], v[25], v[26], v[27]),
+        flags: DataPathFlags(word_at(v, 0)),
+        country_code: country(v),
+        channel_map: channel(v),
+        infra_bssid_channel: infra(v),
+        infra_address: address(flag_at(v, 10), number_at(v, 11)),
+        awdl_address: address(flag_at(v, 12), number_at(v, 13)),
+        unicast_options: options(v),
+        unicast_options_ext: optional(flag_at(v, 16), number_at(v, 17)),
+        extended_flags: extended(v),
+        rlfc: optional(flag_at(v, 20), number_at(v, 21)),
+        log_trigger_id: trigger(v),
+        stats: stats(v),
     }
 }
 
-pub(crate) fn channel_kind(channel: DataPathChannel) -> u64 {
-    match channel {
-        DataPathChannel::SingleChannel(_) => 0,
-        DataPathChannel::ChannelMap(_) => 1,
+impl Numbers {
+    fn channel(self, channel: DataPathChannel) -> Numbers {
+        match channel {
+            DataPathChannel::SingleChannel(n) => self.and(0).byte(n),
+            DataPathChannel::ChannelMap(map) => self.and(1).word(map.0),
+        }
+    }
+
+    fn optional_address(self, a: OptionalAddress) -> Numbers {
+        let address = a.address;
+        self.flag(a.present).address(address)
+    }
+
+    fn optional_word(self, w: OptionalWord) -> Numbers {
+        self.flag(w.present).long(w.word)
+    }
+
+    fn options(self, o: OptionalOptions) -> Numbers {
+        let options = o.options;
+        self.flag(o.present).long(options.0)
+    }
+
+    fn extended(self, e: OptionalExtendedFlags) -> Numbers {
+        let flags = e.flags;
+        self.flag(e.present).word(flags.0)
+    }
+
+    fn stats(self, s: OptionalStats) -> Numbers {
+        let stats = s.stats;
+        self.flag(s.present)
+            .long(stats.msec_since_activation)
+            .long(stats.aw_seq_counter)
+            .long(stats.pay_update_coutner)
     }
 }
 
-pub(crate) fn channel_number(channel: DataPathChannel) -> u64 {
-    match channel {
-        DataPathChannel::SingleChannel(n) => wide(n),
-        DataPathChannel::ChannelMap(map) => wide16(map.0),
-    }
-}
-
-fn country_numbers(c: CountryCode, v: &mut [u64; 32]) {
-    v[1] = flag(c.present);
-    v[2] = wide(c.first);
-    v[3] = wide(c.second);
-}
-
-fn channel_numbers(c: OptionalChannel, v: &mut [u64; 32]) {
-    let channel = c.channel;
-    v[4] = flag(c.present);
-    v[5] = channel_kind(channel);
-    v[6] = channel_number(channel);
-}
-
-fn infra_numbers(i: InfraBssidChannel, v: &mut [u64; 32]) {
-    let bssid = i.bssid;
-    v[7] = flag(i.present);
-    v[8] = number_of(bssid);
-    v[9] = wide16(i.channel);
-}
-
-fn address_number(a: OptionalAddress) -> u64 {
-    let address = a.address;
-    number_of(address)
-}
-
-fn address_numbers(infra: OptionalAddress, awdl: OptionalAddress, v: &mut [u64; 32]) {
-    v[10] = flag(infra.present);
-    v[11] = address_number(infra);
-    v[12] = flag(awdl.present);
-    v[13] = address_number(awdl);
-}
-
-fn option_numbers(o: OptionalOptions, ext: OptionalWord, v: &mut [u64; 32]) {
-    let options = o.options;
-    v[14] = flag(o.present);
-    v[15] = wide32(options.0);
-    v[16] = flag(ext.present);
-    v[17] = wide32(ext.word);
-}
-
-fn extended_numbers(
-    e: OptionalExtendedFlags,
-    rlfc: OptionalWord,
-    t: OptionalTriggerId,
-    v: &mut [u64; 32],
-) {
-    let flags = e.flags;
-    v[18] = flag(e.present);
-    v[19] = wide16(flags.0);
-    v[20] = flag(rlfc.present);
-    v[21] = wide32(rlfc.word);
-    v[22] = flag(t.present);
-    v[23] = wide16(t.id);
-}
-
-fn stats_numbers(s: OptionalStats, v: &mut [u64; 32]) {
-    let stats = s.stats;
-    v[24] = flag(s.present);
-    v[25] = wide32(stats.msec_since_activation);
-    v[26] = wide32(stats.aw_seq_counter);
-    v[27] = wide32(stats.pay_update_coutner);
-}
-
-pub(crate) fn numbers_of(r: DataPathStateTLV, v: &mut [u64; 32]) {
+pub(crate) fn numbers_of(r: DataPathStateTLV) -> Numbers {
     let flags = r.flags;
-    v[0] = wide16(flags.0);
-    country_numbers(r.country_code, v);
-    channel_numbers(r.channel_map, v);
-    infra_numbers(r.infra_bssid_channel, v);
-    address_numbers(r.infra_address, r.awdl_address, v);
-    option_numbers(r.unicast_options, r.unicast_options_ext, v);
-    extended_numbers(r.extended_flags, r.rlfc, r.log_trigger_id, v);
-    stats_numbers(r.stats, v);
+    let country = r.country_code;
+    let map = r.channel_map;
+    let channel = map.channel;
+    let infra = r.infra_bssid_channel;
+    let bssid = infra.bssid;
+    let trigger = r.log_trigger_id;
+    none().word(flags.0)
+        .flag(country.present)
+        .byte(country.first)
+        .byte(country.second)
+        .flag(map.present)
+        .channel(channel)
+        .flag(infra.present)
+        .address(bssid)
+        .word(infra.channel)
+        .optional_address(r.infra_address)
+        .optional_address(r.awdl_address)
+        .options(r.unicast_options)
+        .optional_word(r.unicast_options_ext)
+        .extended(r.extended_flags)
+        .optional_word(r.rlfc)
+        .flag(trigger.present)
+        .word(trigger.id)
+        .stats(r.stats)
 }
 
-pub(crate) fn show_record(out: &mut [u8], at: usize, r: DataPathStateTLV) -> usize {
-    let mut v = [0u64; 32];
-    numbers_of(r, &mut v);
-    show(out, at, b'D', &v)
-}
-
-pub(crate) fn read(value: &[u8], out: &mut [u8], at: usize) -> usize {
+fn read(value: &[u8]) -> Said {
     match DataPathStateTLV::read(value) {
-        ReadDataPathState::Read(record, size) => {
-            let behind_size = named(out, at, b"0 size=", size as u64);
-            show_record(out, behind_size, record)
-        }
-        ReadDataPathState::Refused(why) => {
-            let behind_why = number(out, at, refusal(why));
-            let behind_size = text(out, behind_why, b" size=0");
-            show(out, behind_size, b'D', &[0u64; 32])
-        }
+        ReadDataPathState::Read(record, size) => one(size as u64).with(numbers_of(record)),
+        ReadDataPathState::Refused(why) => refused(why),
     }
 }
 
-pub(crate) fn consistent(v: &[u64; 32], out: &mut [u8], at: usize) -> usize {
-    let r = record_of(v);
-    named(out, at, b"0 consistent=", flag(r.consistent()))
+// Only these and the writer hold a record: a function that holds one costs the proof much at each of its steps.
+fn consistent(v: &[u64; 32]) -> Said {
+    yes_or_no(record_of(v).consistent())
 }
 
-pub(crate) fn mend(v: &[u64; 32], out: &mut [u8], at: usize) -> usize {
-    let r = record_of(v);
-    let behind_why = text(out, at, b"0");
-    show_record(out, behind_why, r.mend())
+fn mended(v: &[u64; 32]) -> Said {
+    one(0).with(numbers_of(record_of(v).mend()))
 }
 
-pub(crate) fn record_size(v: &[u64; 32], out: &mut [u8], at: usize) -> usize {
-    let r = record_of(v);
-    size(out, at, r.size())
+fn size(v: &[u64; 32]) -> Said {
+    sized(record_of(v).size())
 }
 
-pub(crate) fn channel_word(v: &[u64; 32], out: &mut [u8], at: usize) -> usize {
-    let channel = DataPathChannel::from_u16(word(v[0]));
-    let kind = channel_kind(channel);
-    let behind_why = text(out, at, b"0");
-    let behind_kind = show_one(out, behind_why, b"kchannel_kind", kind);
-    named(out, behind_kind, b" channel=", channel_number(channel))
+pub(crate) fn write(v: &[u64; 32], buf: &mut [u8]) -> Size {
+    record_of(v).write(buf)
 }
 
-pub(crate) fn word_of_channel(v: &[u64; 32], out: &mut [u8], at: usize) -> usize {
-    let channel = channel_of(v[0], v[1]);
-    named(out, at, b"0 word=", wide16(channel.as_u16()))
+fn channel_word(v: &[u64; 32]) -> Said {
+    one(0).with(none().channel(DataPathChannel::from_u16(word_at(v, 0))))
 }
 
-pub(crate) fn unicast_options(v: &[u64; 32], out: &mut [u8], at: usize) -> usize {
-    let kept = UnicastOptions::from_bits(long(v[0]));
-    named(out, at, b"0 bits=", wide32(kept.0))
+fn word_of_channel(v: &[u64; 32]) -> Said {
+    one(channel_of(number_at(v, 0), number_at(v, 1)).as_u16() as u64)
 }
 
-pub(crate) fn extended_flags(v: &[u64; 32], out: &mut [u8], at: usize) -> usize {
-    let kept = DataPathExtendedFlags::from_bits(word(v[0]));
-    named(out, at, b"0 bits=", wide16(kept.0))
-}
-
-pub(crate) fn has(v: &[u64; 32], out: &mut [u8], at: usize) -> usize {
-    let found = data_path_fields::has(word(v[0]), word(v[1]));
-    named(out, at, b"0 has=", flag(found))
+pub(crate) fn answer(call: usize, v: &[u64; 32], bytes: &[u8]) -> Said {
+    match call {
+        calls::DATA_PATH_READ => read(bytes),
+        calls::DATA_PATH_CONSISTENT => consistent(v),
+        calls::DATA_PATH_MEND => mended(v),
+        calls::DATA_PATH_SIZE => size(v),
+        calls::CHANNEL_WORD => channel_word(v),
+        calls::WORD_OF_CHANNEL => word_of_channel(v),
+        calls::UNICAST_OPTIONS => one(UnicastOptions::from_bits(long_at(v, 0)).0 as u64),
+        calls::EXTENDED_FLAGS => one(DataPathExtendedFlags::from_bits(word_at(v, 0)).0 as u64),
+        _ => yes_or_no(data_path_fields::has(word_at(v, 0), word_at(v, 1))),
+    }
 }

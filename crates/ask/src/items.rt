@@ -6,9 +6,12 @@ ghost use Rattle.tlvs.specs.Items.{stepAt, valueAt, valueStartAt};
 ghost use Rattle.tlvs.specs.Said.{saidFoundDataPath, synchronizationFound};
 ghost use Rattle.tlvs.specs.Search.{nextDataPath, nextSynchronization};
 use crate::calls;
-use crate::fields::byte;
 use crate::fields::show;
 use crate::fields::show_item;
+use crate::numbers::Numbers;
+use crate::numbers::byte_at;
+use crate::numbers::none;
+use crate::numbers::size_at;
 use crate::output::named;
 use crate::output::named_hex;
 use crate::output::text;
@@ -96,9 +99,9 @@ pub(crate) fn step_with_value(tail: &[u8], place: usize, out: &mut [u8], at: usi
 
 pub(crate) fn value(tail: &[u8], v: &[u64; 32], out: &mut [u8], at: usize) -> usize {
     let item = Item {
-        at: v[1] as usize,
-        tlv_type: byte(v[2]),
-        length: v[3] as usize,
+        at: size_at(v, 1),
+        tlv_type: byte_at(v, 2),
+        length: size_at(v, 3),
     };
     named_hex(out, at, b"0 value=", tlvs::value(tail, item))
 }
@@ -142,93 +145,103 @@ fn reader_synchronization(tail: &[u8], at: usize) -> FoundSynchronization
     ReadTLVs::new(tail).go_on(at).first_synchronization()
 }
 
-// A record that was found is put down as its numbers, and where it stands is answered.
-fn put_data_path(looked: FoundDataPath, v: &mut [u64; 32]) -> Found
-    ensures { λ r. ⌜ r ≡ standsAt (saidFoundDataPath looked) ⌝ }
+// What a search finds: where it stands, and the numbers of the record.
+struct Looked {
+    found: Found,
+    record: Numbers,
+}
+
+fn data_path(looked: FoundDataPath) -> Looked
+    ensures { λ r. ⌜ r .found ≡ standsAt (saidFoundDataPath looked) ⌝ }
 {
     match looked {
-        FoundDataPath::Found(record, item, next) => {
-            crate::data_path::numbers_of(record, v);
-            Found::At(item, next)
-        }
-        FoundDataPath::Nothing => Found::Nothing,
+        FoundDataPath::Found(record, item, next) => Looked {
+            found: Found::At(item, next),
+            record: crate::data_path::numbers_of(record),
+        },
+        FoundDataPath::Nothing => Looked {
+            found: Found::Nothing,
+            record: none(),
+        },
     }
 }
 
-fn put_synchronization(looked: FoundSynchronization, v: &mut [u64; 32]) -> Found
-    ensures { λ r. ⌜ r ≡ looked .found ⌝ }
+fn synchronization(looked: FoundSynchronization) -> Looked
+    ensures { λ r. ⌜ r .found ≡ looked .found ⌝ }
 {
-    crate::synchronization::numbers_of(looked.parameters, v);
-    looked.found
+    let found = looked.found;
+    let parameters = looked.parameters;
+    Looked {
+        found,
+        record: crate::synchronization::numbers_of(parameters),
+    }
 }
 
-// The next record of a kind from a place on.
-fn next_record(kind: u8, tail: &[u8], place: usize, v: &mut [u64; 32]) -> Found
-    ensures { λ r. ⌜ Ahead (now (tail .entry)) place r ⌝ }
-{
-    if kind == b'D' {
-        return put_data_path(tlvs::next_data_path(tail, place), v);
+fn look(call: usize, tail: &[u8], place: usize) -> Looked {
+    match call {
+        calls::FIRST_DATA_PATH => data_path(tlvs::first_data_path(tail)),
+        calls::NEXT_DATA_PATH => data_path(tlvs::next_data_path(tail, place)),
+        calls::READER_FIRST_DATA_PATH => data_path(reader_data_path(tail, place)),
+        calls::FIRST_SYNCHRONIZATION => synchronization(tlvs::first_synchronization(tail)),
+        calls::NEXT_SYNCHRONIZATION => synchronization(tlvs::next_synchronization(tail, place)),
+        _ => synchronization(reader_synchronization(tail, place)),
     }
-    put_synchronization(tlvs::next_synchronization(tail, place), v)
 }
 
 // Where nothing is found, a synchronization search answers the zero record and a data path search none.
-fn show_found(kind: u8, found: Found, v: &[u64; 32], out: &mut [u8], at: usize) -> usize {
+fn show_looked(record: u8, looked: Looked, out: &mut [u8], at: usize) -> usize {
+    let found = looked.found;
+    let numbers = looked.record;
     match found {
         Found::At(item, next) => {
             let behind_word = text(out, at, b" found");
             let behind_item = show_item(out, behind_word, item);
             let behind_next = named(out, behind_item, b" next=", next as u64);
-            show(out, behind_next, kind, v)
+            show(out, behind_next, record, numbers)
         }
         Found::Nothing => {
             let behind_word = text(out, at, b" nothing");
-            if kind == b'S' {
-                return show(out, behind_word, kind, v);
+            if record == b'S' {
+                return show(out, behind_word, record, numbers);
             }
             behind_word
         }
     }
 }
 
-fn look(call: usize, tail: &[u8], place: usize, v: &mut [u64; 32]) -> Found {
-    match call {
-        calls::FIRST_DATA_PATH => put_data_path(tlvs::first_data_path(tail), v),
-        calls::NEXT_DATA_PATH => put_data_path(tlvs::next_data_path(tail, place), v),
-        calls::READER_FIRST_DATA_PATH => put_data_path(reader_data_path(tail, place), v),
-        calls::FIRST_SYNCHRONIZATION => put_synchronization(tlvs::first_synchronization(tail), v),
-        calls::NEXT_SYNCHRONIZATION => {
-            put_synchronization(tlvs::next_synchronization(tail, place), v)
-        }
-        _ => put_synchronization(reader_synchronization(tail, place), v),
-    }
-}
-
 pub(crate) fn search(
     call: usize,
-    kind: u8,
+    record: u8,
     tail: &[u8],
     place: usize,
     out: &mut [u8],
     at: usize,
 ) -> usize {
-    let mut v = [0u64; 32];
-    let found = look(call, tail, place, &mut v);
     let behind_why = text(out, at, b"0");
-    show_found(kind, found, &v, out, behind_why)
+    show_looked(record, look(call, tail, place), out, behind_why)
 }
 
-pub(crate) fn all(kind: u8, tail: &[u8], out: &mut [u8], at: usize) -> usize {
-    let mut v = [0u64; 32];
+// The next record of a kind from a place on.
+fn next_record(record: u8, tail: &[u8], place: usize) -> Looked
+    ensures { λ r. ⌜ Ahead (now (tail .entry)) place (r .found) ⌝ }
+{
+    if record == b'D' {
+        return data_path(tlvs::next_data_path(tail, place));
+    }
+    synchronization(tlvs::next_synchronization(tail, place))
+}
+
+pub(crate) fn all(record: u8, tail: &[u8], out: &mut [u8], at: usize) -> usize {
     let mut behind = text(out, at, b"0");
     let mut place = 0;
     let mut records = 0u64;
     loop {
-        let found = next_record(kind, tail, place, &mut v);
+        let looked = next_record(record, tail, place);
+        let found = looked.found;
         let Found::At(_, next) = found else {
             return named(out, behind, b" records=", records);
         };
-        behind = show_found(kind, found, &v, out, behind);
+        behind = show_looked(record, looked, out, behind);
         place = next;
         records = std::num::wrapping_add_u64(records, 1);
     }

@@ -1,6 +1,11 @@
 // The lines of a frame's report, one at a time and all of them.
-use crate::fields::byte;
-use crate::fields::show_item;
+use crate::fields::mark_list;
+use crate::fields::show;
+use crate::numbers::Numbers;
+use crate::numbers::byte_at;
+use crate::numbers::none;
+use crate::numbers::number_at;
+use crate::numbers::size_at;
 use crate::output::named;
 use crate::output::named_hex;
 use crate::output::text;
@@ -11,47 +16,56 @@ use tlvs::Item;
 
 fn item_of(v: &[u64; 32]) -> Item {
     Item {
-        at: v[2] as usize,
-        tlv_type: byte(v[3]),
-        length: v[4] as usize,
+        at: size_at(v, 2),
+        tlv_type: byte_at(v, 3),
+        length: size_at(v, 4),
     }
 }
 
 fn mark_of(v: &[u64; 32]) -> Mark {
-    match v[1] {
+    match number_at(v, 1) {
         0 => Mark::TooLong,
         1 => Mark::Frame,
-        2 => Mark::Item(v[2] as usize, v[3] as usize),
-        3 => Mark::DataPath(item_of(v), v[5] as usize, v[6] as usize),
-        4 => Mark::Synchronization(item_of(v), v[5] as usize, v[6] as usize),
+        2 => Mark::Item(size_at(v, 2), size_at(v, 3)),
+        3 => Mark::DataPath(item_of(v), size_at(v, 5), size_at(v, 6)),
+        4 => Mark::Synchronization(item_of(v), size_at(v, 5), size_at(v, 6)),
         _ => Mark::End,
     }
 }
 
-fn record_mark(out: &mut [u8], at: usize, item: Item, next: usize, items: usize) -> usize {
-    let behind_item = show_item(out, at, item);
-    let behind_next = named(out, behind_item, b" next=", next as u64);
-    named(out, behind_next, b" items=", items as u64)
+fn number_of(mark: Mark) -> u64 {
+    match mark {
+        Mark::TooLong => 0,
+        Mark::Frame => 1,
+        Mark::Item(_, _) => 2,
+        Mark::DataPath(_, _, _) => 3,
+        Mark::Synchronization(_, _, _) => 4,
+        Mark::End => 5,
+    }
+}
+
+fn record_numbers(item: Item, next: usize, items: usize) -> Numbers {
+    none().size(item.at)
+        .byte(item.tlv_type)
+        .size(item.length)
+        .size(next)
+        .size(items)
+}
+
+// The numbers behind the mark's word.
+fn numbers_of(mark: Mark) -> Numbers {
+    match mark {
+        Mark::Item(place, items) => none().size(place).size(items),
+        Mark::DataPath(item, next, items) => record_numbers(item, next, items),
+        Mark::Synchronization(item, next, items) => record_numbers(item, next, items),
+        _ => none(),
+    }
 }
 
 fn show_mark(out: &mut [u8], at: usize, mark: Mark) -> usize {
-    match mark {
-        Mark::TooLong => text(out, at, b" mark=too_long"),
-        Mark::Frame => text(out, at, b" mark=frame"),
-        Mark::Item(place, items) => {
-            let behind_place = named(out, at, b" mark=item at=", place as u64);
-            named(out, behind_place, b" items=", items as u64)
-        }
-        Mark::DataPath(item, next, items) => {
-            let behind_word = text(out, at, b" mark=data_path");
-            record_mark(out, behind_word, item, next, items)
-        }
-        Mark::Synchronization(item, next, items) => {
-            let behind_word = text(out, at, b" mark=synchronization");
-            record_mark(out, behind_word, item, next, items)
-        }
-        Mark::End => text(out, at, b" mark=end"),
-    }
+    let number = number_of(mark);
+    let behind_word = show(out, at, b'M', none().and(number));
+    show(out, behind_word, mark_list(number), numbers_of(mark))
 }
 
 pub(crate) fn dump_start(input: &[u8], out: &mut [u8], at: usize) -> usize {
@@ -89,12 +103,16 @@ pub(crate) fn next_line(
 }
 
 // A line's text, without the end of the line.
+fn text_of(buf: &[u8; 128], n: usize) -> &[u8] {
+    if 0 < n {
+        return first(buf, n - 1);
+    }
+    first(buf, 0)
+}
+
 fn show_text(buf: &[u8; 128], n: usize, out: &mut [u8], at: usize) -> usize {
     let behind_bar = text(out, at, b" | ");
-    if 0 < n {
-        return text(out, behind_bar, first(buf, n - 1));
-    }
-    behind_bar
+    text(out, behind_bar, text_of(buf, n))
 }
 
 pub(crate) fn lines(frame: &[u8], start: Mark, out: &mut [u8], at: usize) -> usize {

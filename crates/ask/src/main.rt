@@ -13,6 +13,7 @@ mod frames;
 mod items;
 mod lend;
 mod lines;
+mod numbers;
 mod output;
 mod synchronization;
 mod words;
@@ -21,11 +22,10 @@ use arguments::arguments;
 use output::flush;
 use output::has_failed;
 use output::text;
+use text::Decimal;
 use words::between;
 use words::first;
 use words::letter;
-use words::nth;
-use words::put_list;
 use words::skip;
 use words::word_end;
 
@@ -49,52 +49,50 @@ fn bad(out: &mut [u8], at: usize) -> usize {
     text(out, at, b"bad question\n")
 }
 
-fn ask(
-    line: &[u8],
-    from: usize,
-    call: usize,
-    given: &mut [u8],
-    lent: &mut [u8],
-    out: &mut [u8],
-    at: usize,
-) -> usize {
-    let mut letters = [0u8; 512];
-    let mut v = [0u64; 32];
-    let n = calls::put_letters(&mut letters);
-    let signature = nth(put_list(&letters, n), call);
-    if !arguments(line, from, signature, &mut v, given, lent) {
+fn ask(line: &[u8], from: usize, call: usize, out: &mut [u8], at: usize) -> usize {
+    let mut given = room();
+    let mut lent = room();
+    let taken = arguments(line, from, call, &mut given, &mut lent);
+    if !taken.right {
         return bad(out, at);
     }
-    let behind_answer = calls::answer(call, &v, given, lent, out, at);
+    let numbers = taken.numbers;
+    let v = numbers.list;
+    let behind_answer = calls::answer(call, &v, &given, &mut lent, out, at);
     text(out, behind_answer, b"\n")
 }
 
-// Lines without a word and lines that start with # have no answer.
-fn answer(line: &[u8], given: &mut [u8], lent: &mut [u8], out: &mut [u8], at: usize) -> usize {
-    let start = skip(line, 0);
+// Lines without a word and lines that start with # have no answer, but for those that are too long.
+fn is_passed_over(line: &[u8], start: usize) -> bool {
     if LONGEST < line.len() {
-        return bad(out, at);
+        return false;
     }
-    if start == line.len() {
-        return at;
-    }
-    if letter(line, 0) == b'#' {
-        return at;
-    }
-    let end = word_end(line, start);
-    let entry = calls::number_of(between(line, start, end));
-    if entry.found {
-        return ask(line, end, entry.number, given, lent, out, at);
-    }
-    bad(out, at)
+    start == line.len() || letter(line, 0) == b'#'
 }
 
-// The length of the line so far, the place in the block of answers, and whether the questions have ended, with a read that failed.
-struct State {
+fn call_of(line: &[u8], start: usize, end: usize) -> Decimal {
+    if LONGEST < line.len() {
+        return Decimal::No;
+    }
+    calls::number_of(between(line, start, end))
+}
+
+fn answer(line: &[u8], out: &mut [u8], at: usize) -> usize {
+    let start = skip(line, 0);
+    let end = word_end(line, start);
+    if is_passed_over(line, start) {
+        return at;
+    }
+    match call_of(line, start, end) {
+        Decimal::Number(call) => ask(line, end, call as usize, out, at),
+        Decimal::No => bad(out, at),
+    }
+}
+
+// The length of the line so far, and the place in the block of answers.
+struct Places {
     length: usize,
     at: usize,
-    ended: bool,
-    failed: bool,
 }
 
 fn push(line: &mut [u8], n: usize, letter: u8) -> usize {
@@ -105,47 +103,36 @@ fn push(line: &mut [u8], n: usize, letter: u8) -> usize {
     n
 }
 
-fn take_one(
-    byte: u8,
-    state: State,
-    line: &mut [u8],
-    given: &mut [u8],
-    lent: &mut [u8],
-    out: &mut [u8],
-) -> State {
-    let n = state.length;
-    let at = state.at;
+fn take_one(byte: u8, now: Places, line: &mut [u8], out: &mut [u8]) -> Places {
+    let n = now.length;
+    let at = now.at;
     if byte == b'\n' {
-        return State {
+        return Places {
             length: 0,
-            at: answer(first(line, n), given, lent, out, at),
-            ended: false,
-            failed: false,
+            at: answer(first(line, n), out, at),
         };
     }
-    State {
+    Places {
         length: push(line, n, byte),
         at,
-        ended: false,
-        failed: false,
     }
 }
 
-fn take(
-    block: &[u8],
-    state: State,
-    line: &mut [u8],
-    given: &mut [u8],
-    lent: &mut [u8],
-    out: &mut [u8],
-) -> State {
-    let mut now = state;
+fn take(block: &[u8], start: Places, line: &mut [u8], out: &mut [u8]) -> Places {
+    let mut now = start;
     let mut i = 0;
     while i < block.len() {
-        now = take_one(block[i], now, line, given, lent, out);
+        now = take_one(block[i], now, line, out);
         i += 1;
     }
     now
+}
+
+// Where a block of questions leaves off, and whether they have ended, with a read that failed.
+struct State {
+    places: Places,
+    ended: bool,
+    failed: bool,
 }
 
 // What ended the questions.
@@ -154,9 +141,10 @@ struct Ended {
     unwritten: bool,
 }
 
-fn last(state: State, line: &mut [u8], given: &mut [u8], lent: &mut [u8], out: &mut [u8]) -> Ended {
-    let n = state.length;
-    let at = answer(first(line, n), given, lent, out, state.at);
+fn last(state: State, line: &[u8], out: &mut [u8]) -> Ended {
+    let places = state.places;
+    let n = places.length;
+    let at = answer(first(line, n), out, places.at);
     let behind = flush(out, at);
     Ended {
         unread: state.failed,
@@ -165,66 +153,53 @@ fn last(state: State, line: &mut [u8], given: &mut [u8], lent: &mut [u8], out: &
 }
 
 // Answers are written before more is read, so that one who waits for them has them.
-fn turn(
-    state: State,
-    block: &mut [u8],
-    line: &mut [u8],
-    given: &mut [u8],
-    lent: &mut [u8],
-    out: &mut [u8],
-) -> State {
-    let got = libc::read(libc::STDIN_FILENO, block);
-    let n = io::count(got, block);
+fn turn(places: Places, line: &mut [u8], out: &mut [u8]) -> State {
+    let mut block = io::large_buffer();
+    let got = libc::read(libc::STDIN_FILENO, &mut block);
+    let n = io::count(got, &block);
     if n == 0 {
         return State {
-            length: state.length,
-            at: state.at,
+            places,
             ended: true,
             failed: got < 0,
         };
     }
-    let taken = take(first(block, n), state, line, given, lent, out);
+    let taken = take(first(&block, n), places, line, out);
     let at = flush(out, taken.at);
     State {
-        length: taken.length,
-        at,
+        places: Places {
+            length: taken.length,
+            at,
+        },
         ended: has_failed(out, at),
         failed: false,
     }
 }
 
 // The number of blocks has no bound that matters: it is counted down so that it has one.
-fn questions(
-    block: &mut [u8],
-    line: &mut [u8],
-    given: &mut [u8],
-    lent: &mut [u8],
-    out: &mut [u8],
-) -> Ended {
+fn questions(line: &mut [u8], out: &mut [u8]) -> State {
     let mut state = State {
-        length: 0,
-        at: 0,
+        places: Places { length: 0, at: 0 },
         ended: false,
         failed: false,
     };
     let mut blocks = 18446744073709551615u64;
     while 0 < blocks {
-        state = turn(state, block, line, given, lent, out);
+        let places = state.places;
+        state = turn(places, line, out);
         if state.ended {
-            return last(state, line, given, lent, out);
+            return state;
         }
         blocks -= 1;
     }
-    last(state, line, given, lent, out)
+    state
 }
 
 fn main() {
-    let mut block = io::large_buffer();
     let mut out = io::large_buffer();
     let mut line = line_room();
-    let mut given = room();
-    let mut lent = room();
-    let ended = questions(&mut block, &mut line, &mut given, &mut lent, &mut out);
+    let state = questions(&mut line, &mut out);
+    let ended = last(state, &line, &mut out);
     if ended.unread {
         io::write_all(libc::STDERR_FILENO, b"cannot read the input\n");
     } else if ended.unwritten {

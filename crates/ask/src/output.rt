@@ -2,8 +2,6 @@
 // whatever is put from then on is dropped.
 ghost use Prim.Native.Nat.{_≤_, _+_, _-_};
 use crate::words::between;
-use wire::Refusal;
-use wire::Size;
 
 const FAILED: usize = 18446744073709551615;
 
@@ -81,18 +79,4 @@ pub(crate) fn hex(out: &mut [u8], at: usize, bytes: &[u8]) -> usize {
 pub(crate) fn named_hex(out: &mut [u8], at: usize, name: &[u8], bytes: &[u8]) -> usize {
     let behind_name = text(out, at, name);
     hex(out, behind_name, bytes)
-}
-
-pub(crate) fn refusal(why: Refusal) -> u64 {
-    why.number() as u64
-}
-
-pub(crate) fn size(out: &mut [u8], at: usize, answer: Size) -> usize {
-    match answer {
-        Size::Bytes(n) => named(out, at, b"0 size=", n as u64),
-        Size::Refused(why) => {
-            let behind_why = number(out, at, refusal(why));
-            text(out, behind_why, b" size=0")
-        }
-    }
 }

@@ -17,8 +17,8 @@ pub(crate) fn first(s: &[u8], n: usize) -> &[u8] {
     between(s, 0, n)
 }
 
-// The list that was put into a buffer.
-pub(crate) fn put_list(buf: &[u8; 512], n: usize) -> &[u8] {
+// The text that was put into a buffer.
+pub(crate) fn put_text(buf: &[u8; 2048], n: usize) -> &[u8] {
     first(buf, n)
 }
 
@@ -68,54 +68,31 @@ pub(crate) fn letter(s: &[u8], i: usize) -> u8 {
     0
 }
 
-// A word of a list: how many stand before it, and the place behind it.
-pub(crate) struct Entry {
-    pub(crate) found: bool,
-    pub(crate) number: usize,
-    pub(crate) behind: usize,
-}
-
-pub(crate) fn find(list: &[u8], word: &[u8]) -> Entry {
+// How many words of a list stand before a word of it.
+pub(crate) fn find(list: &[u8], word: &[u8]) -> Decimal {
     let mut at = 0;
     let mut number = 0;
     while at < list.len() {
-        let behind = word_end(list, at);
-        if text::same(between(list, at, behind), word) {
-            return Entry {
-                found: true,
-                number,
-                behind,
-            };
+        let end = word_end(list, at);
+        if text::same(between(list, at, end), word) {
+            return Decimal::Number(number);
         }
-        at = behind + 1;
+        at = end + 1;
         number += 1;
-    }
-    Entry {
-        found: false,
-        number,
-        behind: at,
-    }
-}
-
-// The number of a word in a list.
-pub(crate) fn number_in(list: &[u8], word: &[u8]) -> Decimal {
-    let entry = find(list, word);
-    if entry.found {
-        return Decimal::Number(entry.number as u64);
     }
     Decimal::No
 }
 
-// A word of a list by how many stand before it: empty where there are not so many.
-pub(crate) fn nth(list: &[u8], n: usize) -> &[u8] {
+// A part of a list by how many stand before it: empty where there are not so many. Words end at spaces, and lines at line ends.
+pub(crate) fn nth(list: &[u8], n: usize, between_parts: u8) -> &[u8] {
     let mut at = 0;
     let mut i = 0;
     while i < n {
         if list.len() <= at {
             return first(list, 0);
         }
-        at = word_end(list, at) + 1;
+        at = place_of(list, at, between_parts) + 1;
         i += 1;
     }
-    between(list, at, word_end(list, at))
+    between(list, at, place_of(list, at, between_parts))
 }

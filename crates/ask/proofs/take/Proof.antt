@@ -8,10 +8,10 @@ use lib.ListN.{length}
 use mathlib.Core.Path.{_≡_}
 
 abbrev Inv-loop : tie.InvT-loop
-Inv-loop block line₀ given₀ lent₀ out₀ now₀ i₀ line given lent out now i = (length line ≡ length line₀) × (length given ≡ length given₀) × (length lent ≡ length lent₀) × (length out ≡ length out₀)
+Inv-loop block line₀ out₀ now₀ i₀ line out now i = (length line ≡ length line₀) × (length out ≡ length out₀)
 
 abbrev μ-loop : tie.MeasureT-loop
-μ-loop block line₀ given₀ lent₀ out₀ now₀ i₀ line given lent out now i = length block - i
+μ-loop block line₀ out₀ now₀ i₀ line out now i = length block - i
 
 loop-holds : tie.Need-loop-holds Inv-loop μ-loop
 loop-holds c = search needs
@@ -37,12 +37,6 @@ same-length c = search needs
 same-length-2 : tie.Need-same-length-2 Inv-loop μ-loop
 same-length-2 c = search needs
 
-same-length-3 : tie.Need-same-length-3 Inv-loop μ-loop
-same-length-3 c = search needs
-
-same-length-4 : tie.Need-same-length-4 Inv-loop μ-loop
-same-length-4 c = search needs
-
 returns : tie.Need-returns Inv-loop μ-loop
 returns c = search needs
 
@@ -60,6 +54,4 @@ take-spec =
     loop-again
     same-length
     same-length-2
-    same-length-3
-    same-length-4
     returns)

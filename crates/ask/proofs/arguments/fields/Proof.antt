@@ -8,10 +8,10 @@ use lib.ListN.{length}
 use mathlib.Core.Path.{_≡_}
 
 abbrev Inv-loop : tie.InvT-loop
-Inv-loop line list v₀ given₀ lent₀ now₀ from₀ v given lent now from = (length given ≡ length given₀) × (length lent ≡ length lent₀)
+Inv-loop line list buf₀ now₀ from₀ buf now from = length buf ≡ length buf₀
 
 abbrev μ-loop : tie.MeasureT-loop
-μ-loop line list v₀ given₀ lent₀ now₀ from₀ v given lent now from = length list - from
+μ-loop line list buf₀ now₀ from₀ buf now from = length list - from
 
 loop-holds : tie.Need-loop-holds Inv-loop μ-loop
 loop-holds c = search needs
@@ -28,9 +28,6 @@ field-requires c κs = search needs
 same-length : tie.Need-same-length Inv-loop μ-loop
 same-length c = search needs
 
-same-length-2 : tie.Need-same-length-2 Inv-loop μ-loop
-same-length-2 c = search needs
-
 returns : tie.Need-returns Inv-loop μ-loop
 returns c = search needs
 
@@ -43,11 +40,8 @@ loop-less c = search needs
 loop-again : tie.Need-loop-again Inv-loop μ-loop
 loop-again c = search needs
 
-same-length-3 : tie.Need-same-length-3 Inv-loop μ-loop
-same-length-3 c = search needs
-
-same-length-4 : tie.Need-same-length-4 Inv-loop μ-loop
-same-length-4 c = search needs
+same-length-2 : tie.Need-same-length-2 Inv-loop μ-loop
+same-length-2 c = search needs
 
 returns-2 : tie.Need-returns-2 Inv-loop μ-loop
 returns-2 c = search needs
@@ -63,11 +57,9 @@ fields-spec =
     between-requires
     field-requires
     same-length
-    same-length-2
     returns
     add-from
     loop-less
     loop-again
-    same-length-3
-    same-length-4
+    same-length-2
     returns-2)

@@ -9,10 +9,10 @@ use lib.ListN.{length}
 use mathlib.Core.Path.{_≡_, subst}
 
 abbrev Inv-loop : tie.InvT-loop
-Inv-loop kind tail out₀ at v₀ behind₀ place₀ records₀ t12 out v behind place records = length out ≡ length out₀
+Inv-loop «record» tail out₀ at behind₀ place₀ records₀ t12 out behind place records = length out ≡ length out₀
 
 abbrev μ-loop : tie.MeasureT-loop
-μ-loop kind tail out₀ at v₀ behind₀ place₀ records₀ t12 out v behind place records = length tail - place
+μ-loop «record» tail out₀ at behind₀ place₀ records₀ t12 out behind place records = length tail - place
 
 slice-aggregate-text : tie.Need-slice-aggregate-text Inv-loop μ-loop
 slice-aggregate-text c = search needs
@@ -44,14 +44,14 @@ same-length c = search needs
 returns : tie.Need-returns Inv-loop μ-loop
 returns c = search needs
 
-show-found-requires : tie.Need-show-found-requires Inv-loop μ-loop
-show-found-requires c κs = search needs
+show-looked-requires : tie.Need-show-looked-requires Inv-loop μ-loop
+show-looked-requires c κs = search needs
 
 wrapping-add-u64-requires : tie.Need-wrapping-add-u64-requires Inv-loop μ-loop
 wrapping-add-u64-requires c κs = search needs
 
 loop-less : tie.Need-loop-less Inv-loop μ-loop
-loop-less c = subst (Ahead _ _) (c .before .before .before .before .before .before .before .found .given .1) (c .before .before .before .before .before .before .before .before .before .next-record .ensures)
+loop-less c = subst (Ahead _ _) (c .before .before .before .before .before .before .found .given .1) (c .before .before .before .before .before .before .before .before .next-record .ensures)
 
 loop-again : tie.Need-loop-again Inv-loop μ-loop
 loop-again c = search needs
@@ -72,7 +72,7 @@ all-spec =
     named-requires
     same-length
     returns
-    show-found-requires
+    show-looked-requires
     wrapping-add-u64-requires
     loop-less
     loop-again)

@@ -8,28 +8,28 @@ use borrow.Author.Needs.{needs}
 next-data-path-requires : tie.Need-next-data-path-requires
 next-data-path-requires c κs = search needs
 
-put-data-path-requires : tie.Need-put-data-path-requires
-put-data-path-requires c κs = search needs
+data-path-requires : tie.Need-data-path-requires
+data-path-requires c κs = search needs
 
 returns : tie.Need-returns
-returns c = data-path-ahead _ _ (c .before .before .next-data-path .result) (c .before .before .next-data-path .ensures) (c .put-data-path .ensures)
+returns c = data-path-ahead _ _ (c .before .next-data-path .result) (c .before .next-data-path .ensures) (c .data-path .ensures)
 
 next-synchronization-requires : tie.Need-next-synchronization-requires
 next-synchronization-requires c κs = search needs
 
-put-synchronization-requires : tie.Need-put-synchronization-requires
-put-synchronization-requires c κs = search needs
+synchronization-requires : tie.Need-synchronization-requires
+synchronization-requires c κs = search needs
 
 returns-2 : tie.Need-returns-2
-returns-2 c = synchronization-ahead _ _ (c .before .before .next-synchronization .ensures) (c .put-synchronization .ensures)
+returns-2 c = synchronization-ahead _ _ (c .before .next-synchronization .ensures) (c .synchronization .ensures)
 
 pub next-record-spec : {M : Type 1} → statement M
 next-record-spec =
     tie.close
     (tie.spec
     next-data-path-requires
-    put-data-path-requires
+    data-path-requires
     returns
     next-synchronization-requires
-    put-synchronization-requires
+    synchronization-requires
     returns-2)

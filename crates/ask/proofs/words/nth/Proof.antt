@@ -1,4 +1,4 @@
--- `nth` is safe and ends: each turn passes one word.
+-- `nth` is safe and ends: each turn passes one part.
 -- Assumes nothing.
 use Prim.Native.Nat.{_≤_, _-_}
 use Rattle.ask.proofs.words.nth.Statement.{statement}
@@ -6,10 +6,10 @@ use Rattle.ask.proofs.words.nth.Tie as tie
 use borrow.Author.Needs.{needs}
 
 abbrev Inv-loop : tie.InvT-loop
-Inv-loop list n at₀ i₀ at i = i ≤ n
+Inv-loop list n between-parts at₀ i₀ at i = i ≤ n
 
 abbrev μ-loop : tie.MeasureT-loop
-μ-loop list n at₀ i₀ at i = n - i
+μ-loop list n between-parts at₀ i₀ at i = n - i
 
 loop-holds : tie.Need-loop-holds Inv-loop μ-loop
 loop-holds c = search needs
@@ -20,8 +20,8 @@ first-requires c κs = search needs
 returns : tie.Need-returns Inv-loop μ-loop
 returns c = search needs
 
-word-end-requires : tie.Need-word-end-requires Inv-loop μ-loop
-word-end-requires c κs = search needs
+place-of-requires : tie.Need-place-of-requires Inv-loop μ-loop
+place-of-requires c κs = search needs
 
 add-at : tie.Need-add-at Inv-loop μ-loop
 add-at c = search needs
@@ -35,8 +35,8 @@ loop-less c = search needs
 loop-again : tie.Need-loop-again Inv-loop μ-loop
 loop-again c = search needs
 
-word-end-requires-2 : tie.Need-word-end-requires-2 Inv-loop μ-loop
-word-end-requires-2 c κs = search needs
+place-of-requires-2 : tie.Need-place-of-requires-2 Inv-loop μ-loop
+place-of-requires-2 c κs = search needs
 
 between-requires : tie.Need-between-requires Inv-loop μ-loop
 between-requires c κs = search needs
@@ -53,11 +53,11 @@ nth-spec =
     loop-holds
     first-requires
     returns
-    word-end-requires
+    place-of-requires
     add-at
     add-i
     loop-less
     loop-again
-    word-end-requires-2
+    place-of-requires-2
     between-requires
     returns-2)

@@ -1,17 +1,20 @@
--- `arguments` is safe and ends: each turn takes a letter of the signature.
+-- `all` is safe and ends: each turn takes a letter of the signature.
 -- Assumes nothing.
 use Prim.Native.Nat.{_-_}
-use Rattle.ask.proofs.arguments.arguments.Statement.{statement}
-use Rattle.ask.proofs.arguments.arguments.Tie as tie
+use Rattle.ask.proofs.arguments.all.Statement.{statement}
+use Rattle.ask.proofs.arguments.all.Tie as tie
 use borrow.Author.Needs.{needs}
 use lib.ListN.{length}
 use mathlib.Core.Path.{_≡_}
 
 abbrev Inv-loop : tie.InvT-loop
-Inv-loop line from signature v₀ given₀ lent₀ taken₀ i₀ v given lent taken i = (length given ≡ length given₀) × (length lent ≡ length lent₀)
+Inv-loop line from signature given₀ lent₀ taken₀ i₀ given lent taken i = (length given ≡ length given₀) × (length lent ≡ length lent₀)
 
 abbrev μ-loop : tie.MeasureT-loop
-μ-loop line from signature v₀ given₀ lent₀ taken₀ i₀ v given lent taken i = length signature - i
+μ-loop line from signature given₀ lent₀ taken₀ i₀ given lent taken i = length signature - i
+
+none-requires : tie.Need-none-requires Inv-loop μ-loop
+none-requires c κs = search needs
 
 loop-holds : tie.Need-loop-holds Inv-loop μ-loop
 loop-holds c = search needs
@@ -52,12 +55,25 @@ same-length-4 c = search needs
 returns-2 : tie.Need-returns-2 Inv-loop μ-loop
 returns-2 c = search needs
 
-pub arguments-spec : {M : Type 1} → statement M
-arguments-spec =
+wrong-requires : tie.Need-wrong-requires Inv-loop μ-loop
+wrong-requires c κs = search needs
+
+same-length-5 : tie.Need-same-length-5 Inv-loop μ-loop
+same-length-5 c = search needs
+
+same-length-6 : tie.Need-same-length-6 Inv-loop μ-loop
+same-length-6 c = search needs
+
+returns-3 : tie.Need-returns-3 Inv-loop μ-loop
+returns-3 c = search needs
+
+pub all-spec : {M : Type 1} → statement M
+all-spec =
     tie.close
     (tie.spec
     Inv-loop
     μ-loop
+    none-requires
     loop-holds
     shared-slice-read-argument
     argument-requires
@@ -70,4 +86,8 @@ arguments-spec =
     skip-requires
     same-length-3
     same-length-4
-    returns-2)
+    returns-2
+    wrong-requires
+    same-length-5
+    same-length-6
+    returns-3)
