@@ -41,11 +41,11 @@ use denote.Triple.Clauses.{ensured, closing}
 use denote.Triple.Spec.{Meets}
 use denote.Triple.Table.{cited}
 use Rattle.wire.specs.Parts.{partAt}
-use Rattle.tlvs.specs.Items.{stepAt, valueAt, valueStartAt}
-use Rattle.tlvs.specs.declared.item.StepWithValue.{StepWithValue}
+use Rattle.tlv_items.specs.Items.{stepAt, valueAt, valueStartAt}
+use Rattle.tlvs.specs.declared.values.StepWithValue.{StepWithValue}
 use Rattle.tlvs.proofs.OverSlice.{mach, Own, over-slice, slice-says, Promise, Entry, Post, to, asked-beside, heard-of, exits, slice-spec}
-use Rattle.tlvs.proofs.item.StepWithValue as T
-use Rattle.tlvs.proofs.item.StepWithValue.Laws as T′
+use Rattle.tlvs.proofs.values.StepWithValue as T
+use Rattle.tlvs.proofs.values.StepWithValue.Laws as T′
 
 -- what is promised of a step with its value, for some bytes and a place
 abbrev pub Both : Lfts 1 → RattleType

@@ -2,7 +2,7 @@
 ghost use mathlib.Core.Path.{_≡_};
 ghost use Rattle.ask.specs.Ahead.{standsAt, Ahead};
 ghost use Rattle.wire.specs.Parts.{partAt};
-ghost use Rattle.tlvs.specs.Items.{stepAt, valueAt, valueStartAt};
+ghost use Rattle.tlv_items.specs.Items.{stepAt, valueAt, valueStartAt};
 ghost use Rattle.tlvs.specs.Said.{saidFoundDataPath, synchronizationFound};
 ghost use Rattle.tlvs.specs.Search.{nextDataPath, nextSynchronization};
 use crate::calls;

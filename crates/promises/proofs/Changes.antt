@@ -13,11 +13,11 @@ use Rattle.data_path_state.specs.DataPath.{dataPath}
 use Rattle.data_path_state.proofs.Values.{data-path-lawful}
 use Rattle.synchronization_parameters.specs.SynchronizationReader.{synchronization}
 use Rattle.synchronization_parameters.proofs.Whole.{synchronization-lawful}
-use Rattle.tlvs.specs.declared.item.Item.{Item}
-use Rattle.tlvs.specs.Items.{valueOf}
-use Rattle.tlvs.specs.Walk.{walk}
+use Rattle.tlv_items.specs.declared.item.Item.{Item}
+use Rattle.tlv_items.specs.Items.{valueOf}
+use Rattle.tlv_items.specs.Walk.{walk}
 use Rattle.tlvs.specs.Search.{Match as Kept, kept, matched, accepted, allFrom}
-use Rattle.tlvs.specs.Sent.{AllSendable, Sent, sent, sentIn}
+use Rattle.tlv_items.specs.Sent.{AllSendable, Sent, sent, sentIn}
 use Rattle.promises.specs.Later.{Unread, AcceptedValue, as-synchronization, as-data-path, longer, Change, insert, grow, further, Changes, none, more, records}
 
 -- what a reading gives of a record: one, or none

@@ -15,7 +15,8 @@ use Rattle.data_path_fields.proofs.Once.{onceHead, onceBody}
 use Rattle.data_path_state.specs.Said.{saidDataPath}
 use Rattle.data_path_state.specs.Outcomes.{zeroDataPath}
 use Rattle.data_path_state.proofs.Once.{onceDataPath}
-use Rattle.tlvs.proofs.Once.{onceEnd, onceFoundDataPath}
+use Rattle.tlv_items.proofs.Once.{onceEnd}
+use Rattle.tlvs.proofs.Once.{onceFoundDataPath}
 use Rattle.action_frame.specs.Frames.{zeroFrame}
 use Rattle.action_frame.specs.Said.{saidFrame, saidDelta}
 use Rattle.action_frame.proofs.Once.{onceFrame, onceDelta}

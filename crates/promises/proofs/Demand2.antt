@@ -12,7 +12,7 @@ use Rattle.data_path_state.proofs.Again as D′
 use Rattle.data_path_state.proofs.FromBytes.{read-ranges, read-exactly}
 use Rattle.data_path_state.proofs.Mending.{mended-consistent, mended-same}
 use Rattle.synchronization_parameters.proofs.Again as S
-use Rattle.tlvs.proofs.Walks.{gives-walk, gives-walk-once}
+use Rattle.tlv_items.proofs.Walks.{gives-walk, gives-walk-once}
 use Rattle.tlvs.proofs.Searches.{gives-all, gives-all-once}
 use Rattle.action_frame.proofs.Again as F
 use Rattle.report.proofs.Report.{gives-dump, gives-once}

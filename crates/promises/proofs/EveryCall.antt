@@ -32,11 +32,12 @@ use Rattle.data_path_state.specs.Said.{saidDataPath}
 use Rattle.synchronization_parameters.specs.SynchronizationReader.{synchronization}
 use Rattle.synchronization_parameters.specs.SynchronizationBytes as S
 use Rattle.synchronization_parameters.specs.Said.{synchronizationRead}
-use Rattle.tlvs.specs.Items.{stepAt, valueOf, valueStart, valueAt, valueStartAt}
-use Rattle.tlvs.specs.Walk.{walk, endReport}
+use Rattle.tlv_items.specs.Items.{stepAt, valueOf, valueStart, valueAt, valueStartAt}
+use Rattle.tlv_items.specs.Walk.{walk, endReport}
 use Rattle.tlvs.specs.Search.{nextDataPath, nextSynchronization}
-use Rattle.tlvs.specs.ItemBytes.{itemBytes}
-use Rattle.tlvs.specs.Said.{saidEnd, saidFoundDataPath, synchronizationFound}
+use Rattle.tlv_items.specs.ItemBytes.{itemBytes}
+use Rattle.tlv_items.specs.Said.{saidEnd}
+use Rattle.tlvs.specs.Said.{saidFoundDataPath, synchronizationFound}
 use Rattle.action_frame.specs.Frames as F
 use Rattle.action_frame.specs.Frames.{header, tailOf}
 use Rattle.action_frame.specs.Stamps.{delta}
@@ -56,6 +57,7 @@ use Rattle.data_path_fields.proofs.misc.DataPathChannel as words
 use Rattle.data_path_fields.proofs.misc.UnicastOptions as options
 use Rattle.data_path_fields.proofs.fields.DataPathExtendedFlags as extended
 use Rattle.synchronization_parameters.proofs.synchronization_parameters_tlv.SynchronizationParametersTLV as synchronizations
+use Rattle.tlv_items.proofs as items
 use Rattle.tlvs.proofs as tlvs
 use Rattle.tlvs.proofs.read_tlvs.ReadTLVs as readers
 use Rattle.action_frame.proofs.AWDLActionFrame as frames
@@ -166,13 +168,13 @@ pub record EveryCall : Type 2 where
   pub synchronization-write : Call synchronizations.write.Symbol.routine synchronizations.write.ended
       (λ κs a r e. Wrote (now (a .1 .0)) (answer (S.bytesOf (a .0))) (saidSize r) (now (e .1 .0)))
   -- items: a step of the walk, an item's value, the end report, the search for the records of a type, the writer
-  pub step : Call tlvs.step.Symbol.routine tlvs.step.ended
+  pub step : Call items.step.Symbol.routine items.step.ended
       (λ κs a r e. r ≡ stepAt (now (a .0)) (a .1 .0))
   pub step-with-value : Call tlvs.step_with_value.Symbol.routine tlvs.step_with_value.ended
       (λ κs a r e. (r .step ≡ stepAt (now (a .0)) (a .1 .0)) × (now (r .value) ≡ valueAt (now (a .0)) (a .1 .0)) × (r .value .ptr ≡ partAt (valueStartAt (now (a .0)) (a .1 .0)) (a .0 .ptr)))
-  pub value : Call tlvs.value.Symbol.routine tlvs.value.ended
+  pub value : Call items.value.Symbol.routine items.value.ended
       (λ κs a r e. (now r ≡ valueOf (now (a .0)) (a .1 .0)) × (r .ptr ≡ partAt (valueStart (now (a .0)) (a .1 .0)) (a .0 .ptr)))
-  pub end : Call tlvs.end.Symbol.routine tlvs.end.ended
+  pub end : Call items.end.Symbol.routine items.end.ended
       (λ κs a r e. saidEnd r ≡ endReport (walk (now (a .0))))
   pub next-data-path : Call tlvs.next_data_path.Symbol.routine tlvs.next_data_path.ended
       (λ κs a r e. saidFoundDataPath r ≡ nextDataPath (now (a .0)) (a .1 .0))
@@ -182,7 +184,7 @@ pub record EveryCall : Type 2 where
       (λ κs a r e. r ≡ synchronizationFound (nextSynchronization (now (a .0)) (a .1 .0)))
   pub first-synchronization : Call tlvs.first_synchronization.Symbol.routine tlvs.first_synchronization.ended
       (λ κs a r e. r ≡ synchronizationFound (nextSynchronization (now (a .0)) 0))
-  pub write-item : Call tlvs.write_item.Symbol.routine tlvs.write_item.ended
+  pub write-item : Call items.write_item.Symbol.routine items.write_item.ended
       (λ κs a r e. Wrote (now (a .1 .1 .0)) (itemBytes (a .0) (now (a .1 .0))) (saidSize r) (now (e .1 .1 .0)))
   -- the reader that keeps its bytes and its place together
   pub read-tlvs-new : Call readers.new.Symbol.routine readers.new.ended
@@ -260,15 +262,15 @@ every-call =
       extended-flags-from-bits = λ M. extended.from_bits.Met.met;
       synchronization-read = λ M. synchronizations.read.Met.met;
       synchronization-write = λ M. synchronizations.write.Met.met;
-      step = λ M. tlvs.step.Met.met;
+      step = λ M. items.step.Met.met;
       step-with-value = λ M. tlvs.step_with_value.Met.met;
-      value = λ M. tlvs.value.Met.met;
-      end = λ M. tlvs.end.Met.met;
+      value = λ M. items.value.Met.met;
+      end = λ M. items.end.Met.met;
       next-data-path = λ M. tlvs.next_data_path.Met.met;
       first-data-path = λ M. tlvs.first_data_path.Met.met;
       next-synchronization = λ M. tlvs.next_synchronization.Met.met;
       first-synchronization = λ M. tlvs.first_synchronization.Met.met;
-      write-item = λ M. tlvs.write_item.Met.met;
+      write-item = λ M. items.write_item.Met.met;
       read-tlvs-new = λ M. readers.new.Met.met;
       read-tlvs-go-on = λ M. readers.go_on.Met.met;
       read-tlvs-next = λ M. readers.next.Met.met;

@@ -5,10 +5,10 @@ use native.Mathlib.Omega.{arith}
 use mathlib.Core.Path.{_≡_, refl}
 use mathlib.Core.List.{List, [], _∷_, _++_}
 use lib.ListN.{getD}
-use Rattle.tlvs.specs.Items.{stepAt}
-use Rattle.tlvs.specs.Walk.{walkFrom}
+use Rattle.tlv_items.specs.Items.{stepAt}
+use Rattle.tlv_items.specs.Walk.{walkFrom}
 use Rattle.action_frame.specs.Frames.{tailOf}
-use Rattle.tlvs.specs.Sent.{Sent}
+use Rattle.tlv_items.specs.Sent.{Sent}
 use Rattle.promises.specs.Later.{as-data-path, insert, grow, none, more, WholeFrame, Later, received}
 use Rattle.promises.proofs.Demand3.{demand3}
 

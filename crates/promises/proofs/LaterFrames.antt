@@ -10,10 +10,10 @@ use Rattle.wire.specs.Reading.{Reader}
 use Rattle.wire.proofs.Lawful.{SameUpTo}
 use Rattle.data_path_state.specs.DataPath.{dataPath}
 use Rattle.synchronization_parameters.specs.SynchronizationReader.{synchronization}
-use Rattle.tlvs.specs.Walk.{whole, walk}
-use Rattle.tlvs.specs.ItemBytes.{typeLengthValue}
+use Rattle.tlv_items.specs.Walk.{whole, walk}
+use Rattle.tlv_items.specs.ItemBytes.{typeLengthValue}
 use Rattle.action_frame.specs.Frames.{header, tailOf}
-use Rattle.tlvs.specs.Sent.{AllSendable, Sent, sentIn, tailWith}
+use Rattle.tlv_items.specs.Sent.{AllSendable, Sent, sentIn, tailWith}
 use Rattle.promises.specs.Later.{Change, further, none, more, WholeFrame, Later, records, received}
 use Rattle.promises.proofs.Tails.{spelt, walked-back}
 use Rattle.promises.proofs.Takes.{header-same}

@@ -18,14 +18,14 @@ use Rattle.data_path_state.proofs.Sizes.{length-record}
 use Rattle.data_path_state.proofs.RoundTrip as D
 use Rattle.synchronization_parameters.specs.SynchronizationBytes.{bytesOf}
 use Rattle.synchronization_parameters.proofs.RoundTrip as S
-use Rattle.tlvs.specs.declared.item.Step.{Step}
-use Rattle.tlvs.specs.Walk.{whole, walk}
-use Rattle.tlvs.specs.ItemBytes.{typeLengthValue}
-use Rattle.tlvs.proofs.Sizes.{sized-bytes, item-length}
-use Rattle.tlvs.proofs.RoundTrip as T
+use Rattle.tlv_items.specs.declared.item.Step.{Step}
+use Rattle.tlv_items.specs.Walk.{whole, walk}
+use Rattle.tlv_items.specs.ItemBytes.{typeLengthValue}
+use Rattle.tlv_items.proofs.Sizes.{sized-bytes, item-length}
+use Rattle.tlv_items.proofs.RoundTrip as T
 use Rattle.action_frame.specs.Frames as F′
 use Rattle.action_frame.proofs.RoundTrip as F
-use Rattle.tlvs.specs.Sent.{Sent, AllSendable, sentIn, tailWith}
+use Rattle.tlv_items.specs.Sent.{Sent, AllSendable, sentIn, tailWith}
 use Rattle.promises.specs.Formats.{Format, Fills, RoundTrip, sequences, dataPaths, synchronizations, items, frames}
 use Rattle.promises.proofs.Tails.{walked-back}
 

@@ -4,8 +4,8 @@ use mathlib.Core.Path.{refl}
 use Rattle.channel_sequence.specs.Channels.{encodingOf}
 use Rattle.data_path_state.specs.Consistent.{consistent}
 use Rattle.data_path_state.specs.Bytes.{recordBytes}
-use Rattle.tlvs.specs.Items.{stepAt}
-use Rattle.tlvs.specs.Walk.{walkFrom}
+use Rattle.tlv_items.specs.Items.{stepAt}
+use Rattle.tlv_items.specs.Walk.{walkFrom}
 use Rattle.promises.specs.Rows.{AllHold, rows}
 
 pub starred-rows : AllHold rows

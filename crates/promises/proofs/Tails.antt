@@ -13,14 +13,14 @@ use Rattle.wire.specs.Reading.{Reading, read, refused, field}
 use Rattle.wire.specs.Numbers.{number}
 use Rattle.wire.proofs.Lawful.{steps}
 use Rattle.wire.proofs.Bytes.{number-whole}
-use Rattle.tlvs.specs.declared.item.Item.{Item}
-use Rattle.tlvs.specs.declared.item.Step.{Step}
-use Rattle.tlvs.specs.Items.{item, stepOf, stepAt, valueOf}
-use Rattle.tlvs.specs.ItemBytes.{typeLengthValue}
-use Rattle.tlvs.specs.Sent.{Sent, Sendable, AllSendable, sent, sentIn, tailWith}
-use Rattle.tlvs.specs.Walk.{whole, Walk, goOn, walkFrom, walk}
-use Rattle.tlvs.proofs.Steps.{step-stands, step-whole}
-use Rattle.tlvs.proofs.RoundTrip.{tail-back}
+use Rattle.tlv_items.specs.declared.item.Item.{Item}
+use Rattle.tlv_items.specs.declared.item.Step.{Step}
+use Rattle.tlv_items.specs.Items.{item, stepOf, stepAt, valueOf}
+use Rattle.tlv_items.specs.ItemBytes.{typeLengthValue}
+use Rattle.tlv_items.specs.Sent.{Sent, Sendable, AllSendable, sent, sentIn, tailWith}
+use Rattle.tlv_items.specs.Walk.{whole, Walk, goOn, walkFrom, walk}
+use Rattle.tlv_items.proofs.Steps.{step-stands, step-whole}
+use Rattle.tlv_items.proofs.RoundTrip.{tail-back}
 use Rattle.promises.specs.Formats.{Bytes}
 
 -- an item by the bytes at its place

@@ -27,7 +27,8 @@ use Rattle.data_path_state.specs.Outcomes.{zeroDataPath, outcomeDataPath}
 use Rattle.synchronization_parameters.specs.SynchronizationReader.{zeroSynchronization}
 use Rattle.synchronization_parameters.specs.Said.{synchronizationRead}
 use Rattle.synchronization_parameters.specs.Outcomes.{outcomeSynchronization}
-use Rattle.tlvs.specs.Said.{saidEnd, saidFoundDataPath}
+use Rattle.tlv_items.specs.Said.{saidEnd}
+use Rattle.tlvs.specs.Said.{saidFoundDataPath}
 use Rattle.action_frame.specs.Frames.{zeroFrame}
 use Rattle.action_frame.specs.Said.{saidFrame, saidDelta}
 use Rattle.action_frame.specs.Outcomes.{outcomeFrame, resultDelta}

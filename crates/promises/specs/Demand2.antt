@@ -30,10 +30,10 @@ use Rattle.synchronization_parameters.specs.declared.synchronization_parameters
 use Rattle.synchronization_parameters.specs.SynchronizationReader.{synchronization}
 use Rattle.synchronization_parameters.specs.SynchronizationBytes.{bytesOf, numbers}
 use Rattle.synchronization_parameters.specs.Rewritten as S
-use Rattle.tlvs.specs.declared.item.Item.{Item}
-use Rattle.tlvs.specs.Walk.{Ending, whole, walk, GivesItems}
+use Rattle.tlv_items.specs.declared.item.Item.{Item}
+use Rattle.tlv_items.specs.Walk.{Ending, whole, walk, GivesItems}
 use Rattle.tlvs.specs.Search.{Match, allOf, nextFrom, GivesRecords}
-use Rattle.tlvs.specs.Sent.{AllSendable, Sent, sentIn, tailWith}
+use Rattle.tlv_items.specs.Sent.{AllSendable, Sent, sentIn, tailWith}
 use Rattle.action_frame.specs.declared.AWDLActionFrame.{AWDLActionFrame}
 use Rattle.action_frame.specs.Frames.{header, headerBytes, InWidth}
 use Rattle.action_frame.specs.Rewritten as F

@@ -6,10 +6,10 @@ use lib.ListN.{length, take}
 use Rattle.wire.specs.declared.refusal.Refusal.the-variants.{Short}
 use Rattle.wire.specs.Reading.{Reader, read, refused}
 use Rattle.data_path_state.specs.DataPath.{dataPath}
-use Rattle.tlvs.specs.Walk.{whole, walk}
-use Rattle.tlvs.specs.ItemBytes.{typeLengthValue}
+use Rattle.tlv_items.specs.Walk.{whole, walk}
+use Rattle.tlv_items.specs.ItemBytes.{typeLengthValue}
 use Rattle.action_frame.specs.Frames.{tailOf}
-use Rattle.tlvs.specs.Sent.{Sent, sentIn, tailWith}
+use Rattle.tlv_items.specs.Sent.{Sent, sentIn, tailWith}
 use Rattle.promises.specs.Later.{Unread, AcceptedValue, WholeFrame, Later, received}
 use Rattle.synchronization_parameters.specs.SynchronizationReader.{synchronization}
 

@@ -19,11 +19,11 @@ use Rattle.data_path_state.specs.Bytes as D
 use Rattle.synchronization_parameters.specs.declared.synchronization_parameters_tlv.SynchronizationParametersTLV.{SynchronizationParametersTLV}
 use Rattle.synchronization_parameters.specs.SynchronizationReader.{synchronization}
 use Rattle.synchronization_parameters.specs.SynchronizationBytes as S
-use Rattle.tlvs.specs.declared.item.Item.{Item}
-use Rattle.tlvs.specs.declared.item.Step.{Step}
-use Rattle.tlvs.specs.Items.{stepAt, valueOf}
-use Rattle.tlvs.specs.ItemBytes.{itemBytes, itemSize}
-use Rattle.tlvs.specs.Sent.{Sent, Sendable}
+use Rattle.tlv_items.specs.declared.item.Item.{Item}
+use Rattle.tlv_items.specs.declared.item.Step.{Step}
+use Rattle.tlv_items.specs.Items.{stepAt, valueOf}
+use Rattle.tlv_items.specs.ItemBytes.{itemBytes, itemSize}
+use Rattle.tlv_items.specs.Sent.{Sent, Sendable}
 use Rattle.action_frame.specs.declared.AWDLActionFrame.{AWDLActionFrame}
 use Rattle.action_frame.specs.Frames as F
 use Rattle.action_frame.specs.Frames.{header, tailOf}

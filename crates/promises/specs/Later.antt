@@ -8,9 +8,9 @@ use Rattle.data_path_state.specs.declared.data_path_state_tlv.DataPathStateTLV.
 use Rattle.data_path_state.specs.DataPath.{dataPath}
 use Rattle.synchronization_parameters.specs.declared.synchronization_parameters_tlv.SynchronizationParametersTLV.{SynchronizationParametersTLV}
 use Rattle.synchronization_parameters.specs.SynchronizationReader.{synchronization}
-use Rattle.tlvs.specs.Walk.{whole, walk}
+use Rattle.tlv_items.specs.Walk.{whole, walk}
 use Rattle.tlvs.specs.Search.{allOf}
-use Rattle.tlvs.specs.Sent.{Sendable, Sent, sentIn, tailWith}
+use Rattle.tlv_items.specs.Sent.{Sendable, Sent, sentIn, tailWith}
 use Rattle.action_frame.specs.declared.AWDLActionFrame.{AWDLActionFrame}
 use Rattle.action_frame.specs.Frames.{header, tailOf}
 use Rattle.promises.specs.Formats.{Bytes}

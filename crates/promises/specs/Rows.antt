@@ -15,7 +15,7 @@ use Rattle.data_path_fields.specs.Fields.{noCountry, noChannel, noInfra, noAddr
 use Rattle.data_path_state.specs.DataPath.{dataPath}
 use Rattle.data_path_state.specs.Bytes.{bytesOf}
 use Rattle.data_path_state.specs.Outcomes.{zeroDataPath}
-use Rattle.tlvs.specs.Walk.{Walk, whole, cut, walk}
+use Rattle.tlv_items.specs.Walk.{Walk, whole, cut, walk}
 use Rattle.action_frame.specs.declared.AWDLActionFrame.{AWDLActionFrame}
 use Rattle.action_frame.specs.Frames.{header, zeroFrame}
 

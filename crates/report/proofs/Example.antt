@@ -2,8 +2,8 @@
 -- Assumes nothing.
 use mathlib.Core.Path.{_≡_, refl}
 use mathlib.Core.List.{[], _∷_}
-use Rattle.tlvs.specs.Items.{stepAt}
-use Rattle.tlvs.specs.Walk.{walkFrom}
+use Rattle.tlv_items.specs.Items.{stepAt}
+use Rattle.tlv_items.specs.Walk.{walkFrom}
 use Rattle.text.specs.Text.{text, spelled}
 use Rattle.report.specs.Lines.{dumpLines}
 

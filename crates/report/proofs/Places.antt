@@ -5,8 +5,8 @@ use mathlib.Core.Path.{_≡_}
 use mathlib.Core.List.{List}
 use lib.ListN.{length}
 use borrow.Author.Tests.{le-leb, lt-leb}
-use Rattle.tlvs.specs.declared.item.Step.{Step}
-use Rattle.tlvs.specs.Items.{stepAt}
+use Rattle.tlv_items.specs.declared.item.Step.{Step}
+use Rattle.tlv_items.specs.Items.{stepAt}
 use Rattle.report.specs.declared.marks.Line.{Line}
 use Rattle.report.specs.Marks.{Stand, nothing, atStep, atPlace}
 use Rattle.report.specs.Shown.{Shows}

@@ -12,9 +12,9 @@ use Rattle.data_path_state.specs.declared.data_path_state_tlv.DataPathStateTLV.
 use Rattle.data_path_state.specs.DataPath.{dataPath}
 use Rattle.synchronization_parameters.specs.declared.synchronization_parameters_tlv.SynchronizationParametersTLV.{SynchronizationParametersTLV}
 use Rattle.synchronization_parameters.specs.SynchronizationReader.{synchronization}
-use Rattle.tlvs.specs.declared.item.Item.{Item}
-use Rattle.tlvs.specs.Items.{valueOf}
-use Rattle.tlvs.specs.Walk.{Ending, whole, cut, Walk, walk}
+use Rattle.tlv_items.specs.declared.item.Item.{Item}
+use Rattle.tlv_items.specs.Items.{valueOf}
+use Rattle.tlv_items.specs.Walk.{Ending, whole, cut, Walk, walk}
 use Rattle.action_frame.specs.declared.AWDLActionFrame.{AWDLActionFrame}
 use Rattle.action_frame.specs.Frames.{header, tailOf}
 use Rattle.action_frame.specs.Stamps.{delta}

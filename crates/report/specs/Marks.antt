@@ -8,10 +8,10 @@ use lib.ListN.{length}
 use Rattle.wire.specs.Reading.{Reading, read, refused}
 use Rattle.data_path_state.specs.DataPath.{dataPath}
 use Rattle.synchronization_parameters.specs.SynchronizationReader.{synchronization}
-use Rattle.tlvs.specs.declared.item.Item.{Item}
-use Rattle.tlvs.specs.declared.item.Step.{Step}
-use Rattle.tlvs.specs.Items.{stepAt, valueOf}
-use Rattle.tlvs.specs.Walk.{whole, cut}
+use Rattle.tlv_items.specs.declared.item.Item.{Item}
+use Rattle.tlv_items.specs.declared.item.Step.{Step}
+use Rattle.tlv_items.specs.Items.{stepAt, valueOf}
+use Rattle.tlv_items.specs.Walk.{whole, cut}
 use Rattle.action_frame.specs.declared.AWDLActionFrame.{AWDLActionFrame}
 use Rattle.action_frame.specs.Frames.{header, tailOf}
 use Rattle.report.specs.declared.marks.Mark.{Mark}

@@ -1,11 +1,6 @@
-pub mod Steps
-pub mod Plain
-pub mod Walks
 pub mod Searches
 pub mod Beside
 pub mod ByHand
 pub mod OverSlice
 pub mod Thin
-pub mod Sizes
 pub mod Once
-pub mod RoundTrip

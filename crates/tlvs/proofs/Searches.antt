@@ -13,14 +13,14 @@ use borrow.Author.Tests.{eq-eqb, ne-eqb}
 use denote.Enum.Declared.{tagOf}
 use Rattle.wire.specs.declared.refusal.Refusal.{Refusal}
 use Rattle.wire.specs.Reading.{Reading, Reader, read, refused}
-use Rattle.tlvs.specs.declared.item.Item.{Item}
-use Rattle.tlvs.specs.declared.item.Step.{Step}
-use Rattle.tlvs.specs.Items.{stepAt, valueOf, stepValue, valueAt}
-use Rattle.tlvs.specs.Walk.{Ending, Walk, GivesItems, endsWhole, endsCut, givesItem}
+use Rattle.tlv_items.specs.declared.item.Item.{Item}
+use Rattle.tlv_items.specs.declared.item.Step.{Step}
+use Rattle.tlv_items.specs.Items.{stepAt, valueOf, stepValue, valueAt}
+use Rattle.tlv_items.specs.Walk.{Ending, Walk, GivesItems, endsWhole, endsCut, givesItem}
 use Rattle.tlvs.specs.Search.{Match, kept, matched, accepted, allFrom, allOf, Search, found, nothing, behindItem, firstOf, nextFrom, GivesRecords, endsSearch, givesRecord}
-use Rattle.tlvs.proofs.item.Step as S
-use Rattle.tlvs.proofs.Steps.{step-stands}
-use Rattle.tlvs.proofs.Walks.{gives-walk-at, walk-goes}
+use Rattle.tlv_items.proofs.item.Step as S
+use Rattle.tlv_items.proofs.Steps.{step-stands}
+use Rattle.tlv_items.proofs.Walks.{gives-walk-at, walk-goes}
 
 -- what a step found, told by its case: the next place is behind the item, and fewer bytes are left from there
 step-behind : (s : List ℕ) (at : ℕ) {f : Step} {it : Item} {next : ℕ} → f ≡ stepAt s at → f ≡ Step.Item it next → next ≡ behindItem it

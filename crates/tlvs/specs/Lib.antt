@@ -1,9 +1,3 @@
--- Items: an item, a step and a value; Walk: the walk as a list, and its report; Search: the accepted records of a type;
--- ItemBytes: what the writer writes; Sent: items as their sender has them; Said: what the answers of the code say. The enum
--- of a step is its own meaning. Only the writer refuses, with wire's `Size`.
-pub mod Items
-pub mod Walk
+-- Search: the accepted records of a type; Said: what the answers of the code say.
 pub mod Search
-pub mod ItemBytes
-pub mod Sent
 pub mod Said

@@ -2,16 +2,10 @@
 use Rattle.data_path_state.specs.declared.data_path_state_tlv.DataPathStateTLV.{DataPathStateTLV}
 use Rattle.synchronization_parameters.specs.declared.synchronization_parameters_tlv.SynchronizationParametersTLV.{SynchronizationParametersTLV}
 use Rattle.synchronization_parameters.specs.SynchronizationReader.{zeroSynchronization}
-use Rattle.tlvs.specs.declared.item.End.{End}
 use Rattle.tlvs.specs.declared.search.Found.{Found}
 use Rattle.tlvs.specs.declared.search.FoundDataPath.{FoundDataPath}
 use Rattle.tlvs.specs.declared.search.FoundSynchronization.{FoundSynchronization}
-use Rattle.tlvs.specs.Walk.{EndReport, whole, cut}
 use Rattle.tlvs.specs.Search.{Search, found, nothing}
-
-abbrev pub saidEnd : End → EndReport
-saidEnd (End.Whole items) = record { count = items; ending = whole }
-saidEnd (End.Cut at items) = record { count = items; ending = cut at }
 
 abbrev pub saidFoundDataPath : FoundDataPath → Search DataPathStateTLV
 saidFoundDataPath (FoundDataPath.Found p it next) = found p it next

@@ -9,9 +9,9 @@ use Rattle.data_path_state.specs.declared.data_path_state_tlv.DataPathStateTLV.
 use Rattle.data_path_state.specs.DataPath.{dataPath}
 use Rattle.synchronization_parameters.specs.declared.synchronization_parameters_tlv.SynchronizationParametersTLV.{SynchronizationParametersTLV}
 use Rattle.synchronization_parameters.specs.SynchronizationReader.{synchronization}
-use Rattle.tlvs.specs.declared.item.Item.{Item}
-use Rattle.tlvs.specs.Items.{valueOf}
-use Rattle.tlvs.specs.Walk.{walkAt}
+use Rattle.tlv_items.specs.declared.item.Item.{Item}
+use Rattle.tlv_items.specs.Items.{valueOf}
+use Rattle.tlv_items.specs.Walk.{walkAt}
 
 -- a record that its reader accepted, and the item in whose value it stands
 pub record Match (A : Type 0) : Type 0 where

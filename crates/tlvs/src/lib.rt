@@ -1,15 +1,9 @@
-// The items of a frame's tail: their type numbers, the walk over them with its end report, the search for the
-// records of a type, and the writer of an item.
-mod item;
+// Values and records of a frame's items: a step with its value, the reader that holds a tail and a place, and the search for the
+// records of a type. What is known of items themselves is passed on from `tlv_items`.
 mod read_tlvs;
 mod search;
-mod walk;
-mod write;
+mod values;
 
-pub use item::End;
-pub use item::Item;
-pub use item::Step;
-pub use item::StepWithValue;
 pub use read_tlvs::ReadTLVs;
 pub use search::Found;
 pub use search::FoundDataPath;
@@ -18,9 +12,13 @@ pub use search::first_data_path;
 pub use search::first_synchronization;
 pub use search::next_data_path;
 pub use search::next_synchronization;
-pub use walk::end;
-pub use walk::step;
-pub use walk::step_with_value;
-pub use walk::value;
+pub use tlv_items::End;
+pub use tlv_items::Item;
+pub use tlv_items::Step;
+pub use tlv_items::end;
+pub use tlv_items::step;
+pub use tlv_items::value;
+pub use tlv_items::write_item;
+pub use values::StepWithValue;
+pub use values::step_with_value;
 pub use wire::AWDLTLVType;
-pub use write::write_item;

@@ -1,13 +1,13 @@
 ghost use mathlib.Core.Path.{_≡_};
 ghost use Rattle.wire.specs.Parts.{partAt};
-ghost use Rattle.tlvs.specs.Items.{stepAt, valueAt, valueStartAt};
+ghost use Rattle.tlv_items.specs.Items.{stepAt, valueAt, valueStartAt};
 ghost use Rattle.tlvs.specs.Search.{nextDataPath, nextSynchronization};
 ghost use Rattle.tlvs.specs.Said.{saidFoundDataPath, synchronizationFound};
-use crate::item::StepWithValue;
 use crate::search;
 use crate::search::FoundDataPath;
 use crate::search::FoundSynchronization;
-use crate::walk;
+use crate::values;
+use crate::values::StepWithValue;
 
 // A tail and a place in it. Each method takes the two apart and leaves the work to the function over a slice and a place.
 pub struct ReadTLVs<'a> {
@@ -36,7 +36,7 @@ impl<'a> ReadTLVs<'a> {
     pub fn next(self) -> StepWithValue<'a>
         ensures { λ r. ⌜ (r .step ≡ stepAt (now (self .entry .bytes)) (self .entry .at)) × (now (r .value) ≡ valueAt (now (self .entry .bytes)) (self .entry .at)) × (r .value .ptr ≡ partAt (valueStartAt (now (self .entry .bytes)) (self .entry .at)) (self .entry .bytes .ptr)) ⌝ }
     {
-        walk::step_with_value(self.bytes, self.at)
+        values::step_with_value(self.bytes, self.at)
     }
 
     // The first record from the place on.

@@ -1,13 +1,13 @@
 ghost use mathlib.Core.Path.{_≡_};
 ghost use Rattle.tlvs.specs.Search as Search;
 ghost use Rattle.tlvs.specs.Said.{saidFoundDataPath, synchronizationFound};
-use crate::item::Item;
-use crate::item::Step;
-use crate::walk::step;
-use crate::walk::value_at;
+use crate::values::value_at;
 use data_path_state::DataPathStateTLV;
 use data_path_state::ReadDataPathState;
 use synchronization_parameters::SynchronizationParametersTLV;
+use tlv_items::Item;
+use tlv_items::Step;
+use tlv_items::step;
 use wire::Place;
 
 // The next record of a type, its item, and the place behind that item, from which a caller goes on.

@@ -5,8 +5,8 @@ use contract.Running.{givenOf}
 use denote.Signature.{namedLft}
 use denote.Struct.Laws as laws
 use mir.Syntax.{named}
-use Rattle.tlvs.proofs.item.StepWithValue as R
-use Rattle.tlvs.proofs.item.StepWithValue.Laws as R′
+use Rattle.tlvs.proofs.values.StepWithValue as R
+use Rattle.tlvs.proofs.values.StepWithValue.Laws as R′
 use Rattle.tlvs.proofs.read_tlvs.ReadTLVs.next.Symbol as callee
 use Rattle.tlvs.proofs.read_tlvs.ReadTLVs.next.Met as known
 use Rattle.ask.proofs.OneOf.{Both, both}

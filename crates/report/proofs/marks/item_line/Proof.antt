@@ -5,7 +5,7 @@ use Rattle.report.proofs.Places.{no-line, too-many, past-end, steps-to}
 use Rattle.report.proofs.marks.item_line.Statement.{statement}
 use Rattle.report.proofs.marks.item_line.Tie as tie
 use Rattle.report.specs.Lines.{itemLine}
-use Rattle.tlvs.proofs.Steps.{step-stands, step-cut}
+use Rattle.tlv_items.proofs.Steps.{step-stands, step-cut}
 use borrow.Author.Needs.{needs}
 use mathlib.Core.Path.{sym, _∙_}
 
