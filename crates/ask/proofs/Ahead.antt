@@ -14,22 +14,22 @@ use Rattle.tlvs.specs.declared.search.FoundSynchronization.{FoundSynchronizatio
 use Rattle.tlvs.specs.Said.{saidFoundDataPath, synchronizationFound}
 use Rattle.tlvs.specs.Search.{Search, found, nothing, nextFrom, nextDataPath, nextSynchronization}
 use Rattle.tlvs.proofs.Searches.{finds}
-use Rattle.ask.specs.Ahead.{standsAt, Ahead}
+use Rattle.ask.specs.Ahead.{placeFound, Ahead}
 
 module _ {A : Type 0} (type : ℕ) (reader : Reader A) (tail : List ℕ) (place : ℕ) where
-  ahead-found : (m : Search A) → nextFrom type reader tail place ≡ m → Ahead tail place (standsAt m)
+  ahead-found : (m : Search A) → nextFrom type reader tail place ≡ m → Ahead tail place (placeFound m)
   ahead-found (found a it next) e = omega (arith, finds type reader tail place e)
   ahead-found nothing e = tt
 
-  ahead : {r : Found} → r ≡ standsAt (nextFrom type reader tail place) → Ahead tail place r
+  ahead : {r : Found} → r ≡ placeFound (nextFrom type reader tail place) → Ahead tail place r
   ahead e = subst (Ahead tail place) (sym e) (ahead-found (nextFrom type reader tail place) refl)
 
-pub data-path-ahead : (tail : List ℕ) (place : ℕ) (looked : FoundDataPath) {r : Found} → saidFoundDataPath looked ≡ nextDataPath tail place → r ≡ standsAt (saidFoundDataPath looked)
+pub data-path-ahead : (tail : List ℕ) (place : ℕ) (looked : FoundDataPath) {r : Found} → saidFoundDataPath looked ≡ nextDataPath tail place → r ≡ placeFound (saidFoundDataPath looked)
     → Ahead tail place r
-data-path-ahead tail place looked p q = ahead 0x0C dataPath tail place (q ∙ ap standsAt p)
+data-path-ahead tail place looked p q = ahead 0x0C dataPath tail place (q ∙ ap placeFound p)
 
 -- the enum that stands beside the record says where the record stands
-stands : (m : Search SynchronizationParametersTLV) → synchronizationFound m .found ≡ standsAt m
+stands : (m : Search SynchronizationParametersTLV) → synchronizationFound m .found ≡ placeFound m
 stands (found p it next) = refl
 stands nothing = refl
 

@@ -5,9 +5,9 @@ use lib.ListN.{length}
 use Rattle.tlvs.specs.declared.search.Found.{Found}
 use Rattle.tlvs.specs.Search.{Search, found, nothing}
 
-abbrev pub standsAt : {A : Type 0} → Search A → Found
-standsAt (found a it next) = Found.At it next
-standsAt nothing = Found.Nothing
+abbrev pub placeFound : {A : Type 0} → Search A → Found
+placeFound (found a it next) = Found.At it next
+placeFound nothing = Found.Nothing
 
 -- less of the tail is left behind what is found
 abbrev pub Ahead : List ℕ → ℕ → Found → Type 0

@@ -184,13 +184,13 @@ fn items(call: usize, v: &[u64; 32], given: &[u8], out: &mut [u8], at: usize) ->
 }
 
 // The letter of the record that a search looks for.
-fn record_of(search: usize) -> u8 {
-    if search <= ALL_DATA_PATHS { b'D' } else { b'S' }
+fn record_sought(call: usize) -> u8 {
+    if call <= ALL_DATA_PATHS { b'D' } else { b'S' }
 }
 
 fn searches(call: usize, v: &[u64; 32], given: &[u8], out: &mut [u8], at: usize) -> usize {
     let bytes = first(given, size_at(v, 0));
-    let record = record_of(call);
+    let record = record_sought(call);
     match call {
         ALL_DATA_PATHS | ALL_SYNCHRONIZATIONS => items::all(record, bytes, out, at),
         _ => items::search(call, record, bytes, size_at(v, 1), out, at),

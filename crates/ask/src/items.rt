@@ -1,6 +1,6 @@
 // The walk over a tail, its items and their values, and the searches for records.
 ghost use mathlib.Core.Path.{_≡_};
-ghost use Rattle.ask.specs.Ahead.{standsAt, Ahead};
+ghost use Rattle.ask.specs.Ahead.{placeFound, Ahead};
 ghost use Rattle.wire.specs.Parts.{partAt};
 ghost use Rattle.tlv_items.specs.Items.{stepAt, valueAt, valueStartAt};
 ghost use Rattle.tlvs.specs.Said.{saidFoundDataPath, synchronizationFound};
@@ -46,7 +46,7 @@ fn show_both(step: Step, value: &[u8], out: &mut [u8], at: usize) -> usize {
     named_hex(out, behind_step, b" value=", value)
 }
 
-// A step with its value holds a part of the tail, and only the functions from here on hold one: each hands on the step or the part.
+// No covered function can hold a step with its value, so that these five are proved by hand: four of them hand on one of the two.
 fn reader_both<'a>(tail: &'a [u8], at: usize) -> StepWithValue<'a>
     ensures { λ r. ⌜ (r .step ≡ stepAt (now (tail .entry)) at) × (now (r .value) ≡ valueAt (now (tail .entry)) at) × (r .value .ptr ≡ partAt (valueStartAt (now (tail .entry)) at) (tail .entry .ptr)) ⌝ }
 {
@@ -152,7 +152,7 @@ struct Looked {
 }
 
 fn data_path(looked: FoundDataPath) -> Looked
-    ensures { λ r. ⌜ r .found ≡ standsAt (saidFoundDataPath looked) ⌝ }
+    ensures { λ r. ⌜ r .found ≡ placeFound (saidFoundDataPath looked) ⌝ }
 {
     match looked {
         FoundDataPath::Found(record, item, next) => Looked {

@@ -2,7 +2,7 @@
 -- Assumes nothing.
 use Rattle.ask.proofs.items.data_path.Statement.{statement}
 use Rattle.ask.proofs.items.data_path.Tie as tie
-use Rattle.ask.specs.Ahead.{standsAt}
+use Rattle.ask.specs.Ahead.{placeFound}
 use Rattle.tlvs.specs.Said.{saidFoundDataPath}
 use Rattle.tlvs.specs.declared.search.FoundDataPath.{FoundDataPath}
 use borrow.Author.Needs.{needs}
@@ -21,7 +21,7 @@ none-requires : tie.Need-none-requires
 none-requires c κs = search needs
 
 returns : tie.Need-returns
-returns c = ap (λ (x : FoundDataPath). standsAt (saidFoundDataPath x)) (sym (c .before .before .looked .given .1))
+returns c = ap (λ (x : FoundDataPath). placeFound (saidFoundDataPath x)) (sym (c .before .before .looked .given .1))
 
 returns-2 : tie.Need-returns-2
 returns-2 c = search needs
