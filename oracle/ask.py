@@ -1,4 +1,4 @@
-"""Answers the questions of docs/ASK.md by the reading of 01 in awdl.py.
+"""Answers the questions of docs/ASK.md by the reading of 01 and 02 in awdl.py.
 
     python3 oracle/ask.py < QUESTIONS
 """
@@ -161,8 +161,23 @@ def data_path_of(*w):
     )
 
 
-def synchronization_word(width):
-    return {1: u8, 2: u16, 6: address}[width]
+SEQUENCE_WORDS = [("encoding", u8), ("bytes", bytes_of_size(32))]
+CHANNEL_SEQUENCE_WORDS = [
+    ("duplicate_count", u8), ("step_count", u8), ("fill_channel", u16), *SEQUENCE_WORDS,
+]
+SYNCHRONIZATION_WORDS = [
+    *((name, {1: u8, 2: u16, 6: address}[width]) for name, _, width in awdl.FIXED_FIELDS),
+    *CHANNEL_SEQUENCE_WORDS,
+]
+
+
+def channel_sequence_of(*w):
+    return awdl.ChannelSequence(*w[:3], awdl.Sequence(*w[3:]))
+
+
+def synchronization_of(*w):
+    fixed = len(awdl.FIXED_FIELDS)
+    return awdl.Synchronization(*w[:fixed], channel_sequence_of(*w[fixed:]))
 
 
 BYTES = one(any_bytes)
@@ -172,10 +187,9 @@ FRAME = fields(
 )
 ITEM = fields(awdl.Item, ("at", usize), ("type", u8), ("length", usize))
 CHANNEL = fields(awdl.Channel, ("encoding", u8), ("first", u8), ("second", u8))
-SEQUENCE = fields(awdl.Sequence, ("encoding", u8), ("bytes", bytes_of_size(32)))
-SYNCHRONIZATION = fields(awdl.Synchronization, *(
-    (name, synchronization_word(width)) for name, _, width in awdl.SYNCHRONIZATION_FIELDS
-))
+SEQUENCE = fields(awdl.Sequence, *SEQUENCE_WORDS)
+CHANNEL_SEQUENCE = fields(channel_sequence_of, *CHANNEL_SEQUENCE_WORDS)
+SYNCHRONIZATION = fields(synchronization_of, *SYNCHRONIZATION_WORDS)
 DATA_PATH = fields(data_path_of, *DATA_PATH_WORDS)
 
 MARK_WORD = fields(bytes, ("mark", bytes))
@@ -212,19 +226,26 @@ def show_item(item):
     return "at=%d type=%d length=%d" % item
 
 
+def show_channel(channel):
+    return "encoding=%d first=%d second=%d" % channel
+
+
 def show_sequence(sequence):
     return f"encoding={sequence.encoding} bytes={show_bytes(sequence.bytes)}"
 
 
-SYNCHRONIZATION_FORM = " ".join(
-    f"{name}=%s" for name, _, _ in awdl.SYNCHRONIZATION_FIELDS
-)
+def show_channel_sequence(record):
+    head = "duplicate_count=%d step_count=%d fill_channel=%d" % record[:-1]
+    return f"{head} {show_sequence(record.sequence)}"
+
+
+FIXED_FORM = " ".join(f"{name}=%s" for name, _, _ in awdl.FIXED_FIELDS)
 DATA_PATH_FORM = " ".join(f"{name}=%s" for name, _ in DATA_PATH_WORDS)
 
 
 def show_synchronization(record):
     shown = record._replace(master_address=show_bytes(record.master_address))
-    return SYNCHRONIZATION_FORM % shown
+    return f"{FIXED_FORM % shown[:-1]} {show_channel_sequence(record.channel_sequence)}"
 
 
 def show_data_path(record):
@@ -288,6 +309,14 @@ def fixed_answer(channel):
         return f"{refusal.number} {show_sequence(awdl.ZERO_SEQUENCE)}"
 
 
+def entry_answer(sequence, entry):
+    try:
+        channel = awdl.sequence_entry(sequence, entry)
+    except Refused as refusal:
+        return f"{refusal.number} {show_channel(awdl.Channel(0, 0, 0))}"
+    return "0 nothing" if channel is None else f"0 {show_channel(channel)}"
+
+
 def tail_answer(data):
     return f"0 tail={show_bytes(awdl.frame_tail(data))}"
 
@@ -343,6 +372,10 @@ def synchronizations(tail, at=0):
     return awdl.accepted(tail, at, awdl.SYNCHRONIZATION_TYPE, awdl.read_synchronization)
 
 
+def channel_sequences(tail, at=0):
+    return awdl.accepted(tail, at, awdl.CHANNEL_SEQUENCE_TYPE, awdl.read_channel_sequence)
+
+
 def first_answer(search, show, nothing):
     def answer(tail, at=0):
         for item, record in search(tail, at):
@@ -362,6 +395,10 @@ first_data_path = first_answer(data_paths, show_data_path, "0 nothing")
 first_synchronization = first_answer(
     synchronizations, show_synchronization,
     f"0 nothing {show_synchronization(awdl.ZERO_SYNCHRONIZATION)}",
+)
+first_channel_sequence = first_answer(
+    channel_sequences, show_channel_sequence,
+    f"0 nothing {show_channel_sequence(awdl.ZERO_CHANNEL_SEQUENCE)}",
 )
 
 
@@ -398,6 +435,7 @@ REFUSALS = one_of({
     "Inconsistent": awdl.INCONSISTENT,
     "TooLong": awdl.TOO_LONG,
     "SentBeforeHandOver": awdl.SENT_BEFORE_HAND_OVER,
+    "ChannelCount": awdl.CHANNEL_COUNT,
 })
 ENTRY_KINDS = one_of({
     "simple": awdl.SIMPLE, "legacy": awdl.LEGACY, "opclass": awdl.OPCLASS,
@@ -407,13 +445,16 @@ GROUPS = one_of({
         **awdl.TYPES,
         "DATA_PATH_TLV_TYPE": awdl.DATA_PATH_TYPE,
         "SYNCHRONIZATION_TLV_TYPE": awdl.SYNCHRONIZATION_TYPE,
+        "CHANNEL_SEQUENCE_TLV_TYPE": awdl.CHANNEL_SEQUENCE_TYPE,
     },
     "sizes": {
         "HEADER_SIZE": awdl.HEADER_SIZE,
         "DATA_PATH_MIN_SIZE": awdl.DATA_PATH_SIZES[0],
         "DATA_PATH_MAX_SIZE": awdl.DATA_PATH_SIZES[1],
-        "SYNCHRONIZATION_MIN_SIZE": awdl.SYNCHRONIZATION_SIZE,
-        "SYNCHRONIZATION_MAX_SIZE": awdl.SYNCHRONIZATION_SIZE,
+        "SYNCHRONIZATION_MIN_SIZE": awdl.SYNCHRONIZATION_SIZES[0],
+        "SYNCHRONIZATION_MAX_SIZE": awdl.SYNCHRONIZATION_SIZES[1],
+        "CHANNEL_SEQUENCE_MIN_SIZE": awdl.CHANNEL_SEQUENCE_SIZES[0],
+        "CHANNEL_SEQUENCE_MAX_SIZE": awdl.CHANNEL_SEQUENCE_SIZES[1],
     },
     "subtypes": awdl.SUBTYPES,
     "data_path_flags": awdl.DATA_PATH_FLAGS,
@@ -454,6 +495,11 @@ CALLS = {
     "next_synchronization": ([BYTES, AT], first_synchronization),
     "reader_first_synchronization": ([BYTES, AT], first_synchronization),
     "all_synchronizations": ([BYTES], all_answer(synchronizations, show_synchronization)),
+    "first_channel_sequence": ([BYTES], first_channel_sequence),
+    "next_channel_sequence": ([BYTES, AT], first_channel_sequence),
+    "reader_first_channel_sequence": ([BYTES, AT], first_channel_sequence),
+    "all_channel_sequences": (
+        [BYTES], all_answer(channel_sequences, show_channel_sequence)),
     "write_item": ([U8, BYTES, BUFFER], writing_answer(awdl.write_item)),
     "data_path_read": ([BYTES], reading_answer(
         "size", awdl.read_data_path, show_data_path, awdl.ZERO_DATA_PATH)),
@@ -463,14 +509,32 @@ CALLS = {
     "data_path_write": ([DATA_PATH, BUFFER], writing_answer(awdl.write_data_path)),
     "synchronization_read": ([BYTES], reading_answer(
         "size", awdl.read_synchronization, show_synchronization, awdl.ZERO_SYNCHRONIZATION)),
+    "synchronization_consistent": (
+        [SYNCHRONIZATION], number_answer("consistent", awdl.synchronization_is_consistent)),
+    "synchronization_size": (
+        [SYNCHRONIZATION], number_answer("size", awdl.synchronization_size)),
     "synchronization_write": (
         [SYNCHRONIZATION, BUFFER], writing_answer(awdl.write_synchronization)),
+    "channel_sequence_read": ([BYTES, AT], reading_answer(
+        "next", awdl.read_channel_sequence, show_channel_sequence,
+        awdl.ZERO_CHANNEL_SEQUENCE)),
+    "channel_sequence_consistent": (
+        [CHANNEL_SEQUENCE],
+        number_answer("consistent", awdl.channel_sequence_is_consistent)),
+    "channel_sequence_size": (
+        [CHANNEL_SEQUENCE], number_answer("size", awdl.channel_sequence_size)),
+    "channel_sequence_head": (
+        [CHANNEL_SEQUENCE],
+        lambda record: f"0 head={show_bytes(awdl.channel_sequence_head(record))}"),
+    "channel_sequence_write": (
+        [CHANNEL_SEQUENCE, BUFFER], writing_answer(awdl.write_channel_sequence)),
     "sequence_read": ([BYTES, AT, U8], reading_answer(
         "next", awdl.read_sequence, show_sequence, awdl.ZERO_SEQUENCE)),
     "sequence_consistent": (
         [SEQUENCE], number_answer("consistent", awdl.sequence_is_consistent)),
     "sequence_size": ([SEQUENCE], number_answer("size", awdl.sequence_size)),
     "sequence_write": ([SEQUENCE, BUFFER], writing_answer(awdl.write_sequence)),
+    "sequence_entry": ([SEQUENCE, AT], entry_answer),
     "sequence_fixed": ([CHANNEL], fixed_answer),
     "channel": ([CHANNEL], number_answer("channel", awdl.corrected_channel)),
     "encoding": ([U8], number_answer("encoding", awdl.known_encoding)),

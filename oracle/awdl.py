@@ -1,6 +1,7 @@
-"""One reading of docs/01-scope.md (01), in its order and words.
+"""One reading of docs/01-scope.md (01), in its order and words, with No. 2 of
+docs/02-change-requests.md (02).
 
-It is written from 01 alone; only the names of bits, and the numbers of types
+It is written from these alone; only the names of bits, and the numbers of types
 and subtypes that 01 does not list, are the Rust's. A reader gives its size
 and its record, a writer its size and the buffer as it is afterwards, and a
 call that is refused raises `Refused` with 01's number.
@@ -20,6 +21,7 @@ NO_ROOM = 6                 # the buffer is shorter than the size to write
 INCONSISTENT = 7            # the record is not consistent
 TOO_LONG = 8                # an item value is longer than 65,535 bytes
 SENT_BEFORE_HAND_OVER = 9   # `tx_delta`, the sending stamp below the hand-over stamp
+CHANNEL_COUNT = 10          # the count byte of a channel sequence is not 15 (02)
 
 
 class Refused(Exception):
@@ -332,11 +334,10 @@ def write_data_path(record, buffer):
 
 # Synchronization and channels.
 
-SYNCHRONIZATION_TYPE = 0x04
-SYNCHRONIZATION_SIZE = 33
+FIXED_SIZE = 33
 
 # Name, offset and width; byte 28 is reserved.
-SYNCHRONIZATION_FIELDS = [
+FIXED_FIELDS = [
     ("next_channel", 0, 1),
     ("tx_counter", 1, 2),
     ("master_channel", 3, 1),
@@ -356,37 +357,24 @@ SYNCHRONIZATION_FIELDS = [
     ("aw_seq_number", 29, 2),
     ("ap_beacon_alignment_delta", 31, 2),
 ]
-Synchronization = namedtuple(
-    "Synchronization", [name for name, _, _ in SYNCHRONIZATION_FIELDS]
-)
 
 
-def synchronization_of(data):
+def fixed_fields(data):
     """An address is its bytes, every other field a number."""
     fields = []
-    for name, offset, width in SYNCHRONIZATION_FIELDS:
+    for name, offset, width in FIXED_FIELDS:
         part = data[offset:offset + width]
         fields.append(part if name == "master_address" else int.from_bytes(part, "little"))
-    return Synchronization(*fields)
+    return fields
 
 
-ZERO_SYNCHRONIZATION = synchronization_of(bytes(SYNCHRONIZATION_SIZE))
-
-
-def read_synchronization(data):
-    """33 bytes are read; what follows is no part of the record."""
-    if len(data) < SYNCHRONIZATION_SIZE:
-        raise Refused(SHORT)
-    return SYNCHRONIZATION_SIZE, synchronization_of(data)
-
-
-def write_synchronization(record, buffer):
+def fixed_bytes(fields):
     """The reserved byte 28 is written 0."""
-    data = bytearray(SYNCHRONIZATION_SIZE)
-    for field, (name, offset, width) in zip(record, SYNCHRONIZATION_FIELDS):
+    data = bytearray(FIXED_SIZE)
+    for field, (name, offset, width) in zip(fields, FIXED_FIELDS):
         part = field if name == "master_address" else little(field, width)
         data[offset:offset + width] = part
-    return put(bytes(data), buffer)
+    return bytes(data)
 
 
 SIMPLE = 0
@@ -454,6 +442,16 @@ def fixed_sequence(channel):
     return Sequence(encoding, (entry * ENTRIES).ljust(32, b"\0"))
 
 
+def sequence_entry(sequence, entry):
+    """An entry, from 0 on, as a channel of the bytes as they stand (02); None
+    where there is no such entry. 5 is checked first."""
+    size = entry_size(sequence.encoding)
+    if entry >= ENTRIES:
+        return None
+    used = sequence.bytes[size * entry:size * (entry + 1)]
+    return Channel(sequence.encoding, *used.ljust(2, b"\0"))
+
+
 def support_channel(flags):
     """The low two flag bits; bandwidth and band are the next two pairs."""
     return flags & 3
@@ -480,7 +478,87 @@ def corrected_channel(channel):
     return channel.second
 
 
-# The report of a frame, line by line, and the dump.
+# The channel sequence behind the synchronization fields (02, No. 2), which is
+# also the value of an item of its own.
+
+CHANNEL_SEQUENCE_TYPE = 0x12
+CHANNEL_SEQUENCE_SIZES = 22, 38
+SYNCHRONIZATION_TYPE = 0x04
+SYNCHRONIZATION_SIZES = 55, 71
+COUNT_LESS_ONE = 15
+
+ChannelSequence = namedtuple(
+    "ChannelSequence", "duplicate_count step_count fill_channel sequence"
+)
+Synchronization = namedtuple(
+    "Synchronization", [name for name, _, _ in FIXED_FIELDS] + ["channel_sequence"]
+)
+ZERO_CHANNEL_SEQUENCE = ChannelSequence(0, 0, 0, ZERO_SEQUENCE)
+ZERO_SYNCHRONIZATION = Synchronization(
+    *fixed_fields(bytes(FIXED_SIZE)), ZERO_CHANNEL_SEQUENCE
+)
+
+
+def read_channel_sequence(data, at=0):
+    """The place behind it, and it: six bytes, then 16 entries in the encoding
+    named. 10 is checked after 1 for the six bytes and before 5."""
+    source = Source(data, at)
+    count, encoding, duplicate_count, step_count = source.take(4)
+    fill_channel = source.number(2)
+    if count != COUNT_LESS_ONE:
+        raise Refused(CHANNEL_COUNT)
+    following, sequence = read_sequence(data, source.at, encoding)
+    return following, ChannelSequence(duplicate_count, step_count, fill_channel, sequence)
+
+
+def channel_sequence_head(record):
+    """The six bytes before the entries, the first of them always 15."""
+    head = COUNT_LESS_ONE, record.sequence.encoding, record.duplicate_count, record.step_count
+    return bytes(head) + little(record.fill_channel, 2)
+
+
+def channel_sequence_is_consistent(record):
+    return sequence_is_consistent(record.sequence)
+
+
+def channel_sequence_bytes(record):
+    return channel_sequence_head(record) + sequence_bytes(record.sequence)
+
+
+def channel_sequence_size(record):
+    return len(channel_sequence_bytes(record))
+
+
+def write_channel_sequence(record, buffer):
+    return put(channel_sequence_bytes(record), buffer)
+
+
+def read_synchronization(data):
+    """The 33 bytes, accepted only with the sequence; what follows the entries
+    is ignored."""
+    fields = fixed_fields(Source(data).take(FIXED_SIZE))
+    size, sequence = read_channel_sequence(data, FIXED_SIZE)
+    return size, Synchronization(*fields, sequence)
+
+
+def synchronization_is_consistent(record):
+    return channel_sequence_is_consistent(record.channel_sequence)
+
+
+def synchronization_bytes(record):
+    return fixed_bytes(record[:-1]) + channel_sequence_bytes(record.channel_sequence)
+
+
+def synchronization_size(record):
+    return len(synchronization_bytes(record))
+
+
+def write_synchronization(record, buffer):
+    return put(synchronization_bytes(record), buffer)
+
+
+# The report of a frame, line by line, and the dump. A value of type 0x12 adds no
+# line to that of its item (02).
 #
 # A mark says which line comes next: ("too_long",), ("frame",),
 # ("item", at, items), ("data_path", item, next, items), the same for

@@ -1,7 +1,7 @@
 """Makes questions for docs/ASK.md: random and damaged frames and values, every
-cut of good ones, records of every presence, buffers short, exact and long,
-numbers at the limits of their fields, bytes in every form, bad questions, and
-lines around the longest one.
+cut of good ones, channel sequences with wrong counts and encodings, records of
+every presence, buffers short, exact and long, numbers at the limits of their
+fields, bytes in every form, bad questions, and lines around the longest one.
 """
 
 import re
@@ -94,8 +94,24 @@ def data_path_value():
     return data
 
 
+def encoding():
+    return R.choice((0, 1, 1, 3)) if chance(1.2) else some(255)
+
+
+def channel_sequence_value():
+    """Six bytes and the entries; the count byte is seldom another."""
+    count = R.choice((0, 14, 16, 255, some(255))) if chance(10) else 15
+    kind = encoding()
+    entries = R.randbytes(16 if kind == 0 else 32)
+    return bytes([count, kind]) + R.randbytes(4) + entries
+
+
 def synchronization_value():
-    return R.randbytes(R.choice((33, 33, 33, 34, 32, 73)))
+    """With its sequence mostly, else with a part of it or with none."""
+    data = R.randbytes(33) + channel_sequence_value()
+    if chance(1.15):
+        return data
+    return data[:R.choice((32, 33, 34, 38, 39, 40, 54, 55, 56, 70))]
 
 
 def damaged(data):
@@ -121,18 +137,25 @@ def value_of(kind):
     if kind == awdl.DATA_PATH_TYPE:
         return seldom_damaged(data_path_value())
     if kind == awdl.SYNCHRONIZATION_TYPE:
-        return synchronization_value()
+        return seldom_damaged(synchronization_value())
+    if kind == awdl.CHANNEL_SEQUENCE_TYPE:
+        return seldom_damaged(channel_sequence_value())
     length = R.getrandbits(3)
     if chance(40):
         length = R.choice((255, 256, 257))
     return bytes([some(255)]) * length if chance(2) else R.randbytes(length)
 
 
+READ = awdl.DATA_PATH_TYPE, awdl.SYNCHRONIZATION_TYPE, awdl.CHANNEL_SEQUENCE_TYPE
+
+
 def good_tail():
+    """One type that is read stands out; a value has seldom another type than its own."""
     tail = b""
+    often = R.choice(READ)
     for _ in range(R.getrandbits(2)):
-        kind = R.choice((12, 12, 4, 4, 0, 5, 11, 13, 255))
-        data = value_of(kind)
+        kind = often if chance(2) else R.choice((*READ, 0, 5, 11, 13, 17, 255))
+        data = value_of(R.choice(READ) if chance(12) else kind)
         tail += bytes([kind]) + awdl.little(len(data), 2) + data
     return tail
 
@@ -245,17 +268,6 @@ def data_path_words(record):
     return words_of(ask.show_data_path(record))
 
 
-def synchronization_words():
-    record = awdl.synchronization_of(bytes([some(255)]) * 33 if chance(5) else R.randbytes(33))
-    if chance(3):
-        record = record._replace(aw_seq_number=some(65535), tx_counter=some(65535))
-    return words_of(ask.show_synchronization(record))
-
-
-def encoding():
-    return R.choice((0, 1, 1, 3)) if chance(1.2) else some(255)
-
-
 def sequence():
     kind = encoding()
     data = R.randbytes(32)
@@ -268,8 +280,39 @@ def sequence():
     return awdl.Sequence(kind, data)
 
 
+def show_sequence(record):
+    """As an answer shows it, the bytes in any form."""
+    return f"encoding={record.encoding} bytes={spell(record.bytes)}"
+
+
 def sequence_words(record):
-    return words_of(f"encoding={record.encoding} bytes={spell(record.bytes)}")
+    return words_of(show_sequence(record))
+
+
+def channel_sequence():
+    return awdl.ChannelSequence(some(255), some(255), some(65535), sequence())
+
+
+def show_channel_sequence(record):
+    head = "duplicate_count=%d step_count=%d fill_channel=%d" % record[:-1]
+    return f"{head} {show_sequence(record.sequence)}"
+
+
+def channel_sequence_words(record):
+    return words_of(show_channel_sequence(record))
+
+
+def synchronization():
+    fields = bytes([some(255)]) * 33 if chance(5) else R.randbytes(33)
+    record = awdl.Synchronization(*awdl.fixed_fields(fields), channel_sequence())
+    if chance(3):
+        record = record._replace(aw_seq_number=some(65535), tx_counter=some(65535))
+    return record
+
+
+def synchronization_words(record):
+    fixed = ask.show_synchronization(record).partition(" duplicate_count=")[0]
+    return words_of(f"{fixed} {show_channel_sequence(record.channel_sequence)}")
 
 
 def channel_words():
@@ -320,13 +363,16 @@ READERS = {
     "all_data_paths": good_tail,
     "first_synchronization": good_tail,
     "all_synchronizations": good_tail,
+    "first_channel_sequence": good_tail,
+    "all_channel_sequences": good_tail,
     "data_path_read": data_path_value,
     "synchronization_read": synchronization_value,
 }
-READER_NAMES = [*READERS, "frame_read", *["data_path_read"] * 5]
+READER_NAMES = [*READERS, "frame_read", *["data_path_read"] * 5, "synchronization_read"]
 STEPS = (
     "step", "step_with_value", "reader_next", "next_data_path",
     "reader_first_data_path", "next_synchronization", "reader_first_synchronization",
+    "next_channel_sequence", "reader_first_channel_sequence",
 )
 SMALL = {
     "encoding": 255, "encoding_size": 255, "legacy_flags": 255,
@@ -340,7 +386,7 @@ LISTED = [
         "unicast_options", "channel_map", "legacy_flags", "flags")),
     *(f"refusal_number {name}" for name in (
         "Short", "NotAction", "NotVersion", "UnicastLength", "Encoding", "NoRoom",
-        "Inconsistent", "TooLong", "SentBeforeHandOver", "short", "None")),
+        "Inconsistent", "TooLong", "SentBeforeHandOver", "ChannelCount", "short", "None")),
     *(f"entry_size {kind}" for kind in ("simple", "legacy", "opclass", "Simple")),
 ]
 
@@ -410,8 +456,49 @@ def every_buffer():
     return [f"data_path_write {words} {spell(bytes(room))}" for room in range(size + 3)]
 
 
+def synchronization_ask():
+    name = R.choice(("consistent", "size"))
+    return [f"synchronization_{name} {synchronization_words(synchronization())}"]
+
+
 def synchronization_write():
-    return [f"synchronization_write {synchronization_words()} {buffer(33)}"]
+    record = synchronization()
+    size = 55 if record.channel_sequence.sequence.encoding == 0 else 71
+    return [f"synchronization_write {synchronization_words(record)} {buffer(size)}"]
+
+
+def channel_sequence_read():
+    at = R.choice((0, 0, 1, 5, 33))
+    data = R.randbytes(at) + seldom_damaged(channel_sequence_value())
+    if chance(8):
+        at = some(LARGEST) if chance(2) else R.randrange(len(data) + 3)
+    return [f"channel_sequence_read {spell(data)} {at}"]
+
+
+def every_channel_sequence_cut():
+    at = R.choice((0, 0, 3))
+    data = R.randbytes(at) + channel_sequence_value() + R.randbytes(2)
+    return [
+        f"channel_sequence_read {spell(data[:length])} {at}"
+        for length in range(len(data) + 1)
+    ]
+
+
+def channel_sequence_ask():
+    name = R.choice(("consistent", "size", "head"))
+    return [f"channel_sequence_{name} {channel_sequence_words(channel_sequence())}"]
+
+
+def channel_sequence_write():
+    record = channel_sequence()
+    size = 22 if record.sequence.encoding == 0 else 38
+    return [f"channel_sequence_write {channel_sequence_words(record)} {buffer(size)}"]
+
+
+def every_channel_sequence_buffer():
+    """A channel sequence into every buffer up to its size and two more."""
+    words = channel_sequence_words(channel_sequence())
+    return [f"channel_sequence_write {words} {spell(bytes(room))}" for room in range(41)]
 
 
 def sequence_read():
@@ -431,6 +518,11 @@ def sequence_write():
     record = sequence()
     size = 16 if record.encoding == 0 else 32
     return [f"sequence_write {sequence_words(record)} {buffer(size)}"]
+
+
+def sequence_entry():
+    entry = R.randrange(18) if chance(1.2) else some(LARGEST)
+    return [f"sequence_entry {sequence_words(sequence())} {entry}"]
 
 
 def of_channel():
@@ -477,6 +569,7 @@ def large():
         f"write_item 7 {data} EE*{R.choice((0, 3, 65537, 65538, 65539))}",
         f"end 0C{length & 255:02X}{length >> 8 & 255:02X}+00*{min(length, 65990)}",
         f"step 0CFFFF+{data} 0", f"first_data_path 0CFFFF+{data}",
+        f"channel_sequence_read {data} {R.choice((0, 65513, 65514, 65978, 65979))}",
         f"all_data_paths 0CFFFF+00*65535+0C0200{R.getrandbits(16):04X}",
     ))]
 
@@ -532,9 +625,15 @@ def passed_over():
 
 MAKERS = [
     *[read] * 10, *[step] * 6, *[value] * 2, *[frame_write] * 3, *[write_item] * 2,
-    tx_delta, *[data_path_ask] * 8, *[data_path_write] * 6, *[synchronization_write] * 2,
-    *[sequence_read] * 2, *[sequence_ask] * 2, *[sequence_write] * 2, *[of_channel] * 2,
-    *[small] * 2, two_words, listed, *[next_line] * 3,
+    tx_delta, *[data_path_ask] * 8, *[data_path_write] * 6, *[synchronization_ask] * 2,
+    *[synchronization_write] * 3, *[channel_sequence_read] * 3, *[channel_sequence_ask] * 3,
+    *[channel_sequence_write] * 3, *[sequence_read] * 2, *[sequence_ask] * 2,
+    *[sequence_write] * 2, *[sequence_entry] * 2, *[of_channel] * 2, *[small] * 2,
+    two_words, listed, *[next_line] * 3,
+]
+EVERY = [
+    *[every_cut] * 3, *[every_place] * 2, every_buffer, every_channel_sequence_cut,
+    every_channel_sequence_buffer,
 ]
 
 
@@ -546,7 +645,7 @@ def group():
     if pick < 0.98:
         return bad()
     if pick < 0.99:
-        return R.choice((every_cut, every_cut, every_cut, every_place, every_place, every_buffer))()
+        return R.choice(EVERY)()
     if pick < 0.9990:
         return passed_over()
     if pick < 0.9996:

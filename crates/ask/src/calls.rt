@@ -1,10 +1,10 @@
 // The calls: a name and a letter for each argument, or for each record of arguments, and what answers the call.
-use crate::channels;
 use crate::fields::show_said;
 use crate::items;
 use crate::lines;
 use crate::numbers::Said;
 use crate::numbers::size_at;
+use crate::sequences;
 use crate::words::find;
 use crate::words::first;
 use crate::words::letter;
@@ -27,103 +27,130 @@ pub(crate) const DATA_PATH_MEND: usize = 5;
 
 pub(crate) const DATA_PATH_SIZE: usize = 6;
 
-pub(crate) const SYNCHRONIZATION_READ: usize = 7;
+pub(crate) const CHANNEL_WORD: usize = 7;
 
-pub(crate) const CHANNEL_WORD: usize = 8;
+pub(crate) const WORD_OF_CHANNEL: usize = 8;
 
-pub(crate) const WORD_OF_CHANNEL: usize = 9;
+pub(crate) const UNICAST_OPTIONS: usize = 9;
 
-pub(crate) const UNICAST_OPTIONS: usize = 10;
+pub(crate) const EXTENDED_FLAGS: usize = 10;
 
-pub(crate) const EXTENDED_FLAGS: usize = 11;
+pub(crate) const HAS: usize = 11;
 
-pub(crate) const HAS: usize = 12;
+pub(crate) const SYNCHRONIZATION_READ: usize = 12;
 
-pub(crate) const SEQUENCE_CONSISTENT: usize = 13;
+pub(crate) const SYNCHRONIZATION_CONSISTENT: usize = 13;
 
-pub(crate) const SEQUENCE_SIZE: usize = 14;
+pub(crate) const SYNCHRONIZATION_SIZE: usize = 14;
 
-pub(crate) const CHANNEL: usize = 15;
+pub(crate) const CHANNEL_SEQUENCE_READ: usize = 15;
 
-pub(crate) const ENCODING: usize = 16;
+pub(crate) const CHANNEL_SEQUENCE_CONSISTENT: usize = 16;
 
-pub(crate) const ENCODING_SIZE: usize = 17;
+pub(crate) const CHANNEL_SEQUENCE_SIZE: usize = 17;
 
-pub(crate) const ENTRY_SIZE: usize = 18;
+pub(crate) const SEQUENCE_READ: usize = 18;
 
-pub(crate) const LEGACY_FLAGS: usize = 19;
+pub(crate) const SEQUENCE_CONSISTENT: usize = 19;
 
-pub(crate) const SUPPORT_CHANNEL: usize = 20;
+pub(crate) const SEQUENCE_SIZE: usize = 20;
 
-pub(crate) const CHANNEL_BANDWIDTH: usize = 21;
+pub(crate) const SEQUENCE_FIXED: usize = 21;
 
-pub(crate) const BAND: usize = 22;
+pub(crate) const CHANNEL: usize = 22;
 
-pub(crate) const STEP: usize = 23;
+pub(crate) const ENCODING: usize = 23;
 
-pub(crate) const STEP_WITH_VALUE: usize = 24;
+pub(crate) const ENCODING_SIZE: usize = 24;
 
-pub(crate) const VALUE: usize = 25;
+pub(crate) const ENTRY_SIZE: usize = 25;
 
-pub(crate) const END: usize = 26;
+pub(crate) const LEGACY_FLAGS: usize = 26;
 
-pub(crate) const WALK: usize = 27;
+pub(crate) const SUPPORT_CHANNEL: usize = 27;
 
-pub(crate) const READER_NEXT: usize = 28;
+pub(crate) const CHANNEL_BANDWIDTH: usize = 28;
 
-pub(crate) const FIRST_DATA_PATH: usize = 29;
+pub(crate) const BAND: usize = 29;
 
-pub(crate) const NEXT_DATA_PATH: usize = 30;
+pub(crate) const STEP: usize = 30;
 
-pub(crate) const READER_FIRST_DATA_PATH: usize = 31;
+pub(crate) const STEP_WITH_VALUE: usize = 31;
 
-pub(crate) const ALL_DATA_PATHS: usize = 32;
+pub(crate) const VALUE: usize = 32;
 
-pub(crate) const FIRST_SYNCHRONIZATION: usize = 33;
+pub(crate) const END: usize = 33;
 
-pub(crate) const NEXT_SYNCHRONIZATION: usize = 34;
+pub(crate) const WALK: usize = 34;
 
-pub(crate) const READER_FIRST_SYNCHRONIZATION: usize = 35;
+pub(crate) const READER_NEXT: usize = 35;
 
-pub(crate) const ALL_SYNCHRONIZATIONS: usize = 36;
+pub(crate) const FIRST_DATA_PATH: usize = 36;
 
-pub(crate) const FRAME_TAIL: usize = 37;
+pub(crate) const NEXT_DATA_PATH: usize = 37;
 
-pub(crate) const SEQUENCE_READ: usize = 38;
+pub(crate) const READER_FIRST_DATA_PATH: usize = 38;
 
-pub(crate) const SEQUENCE_FIXED: usize = 39;
+pub(crate) const ALL_DATA_PATHS: usize = 39;
 
-pub(crate) const DUMP_START: usize = 40;
+pub(crate) const FIRST_SYNCHRONIZATION: usize = 40;
 
-pub(crate) const LINES: usize = 41;
+pub(crate) const NEXT_SYNCHRONIZATION: usize = 41;
 
-pub(crate) const DUMP: usize = 42;
+pub(crate) const READER_FIRST_SYNCHRONIZATION: usize = 42;
 
-pub(crate) const CONSTANTS: usize = 43;
+pub(crate) const ALL_SYNCHRONIZATIONS: usize = 43;
 
-pub(crate) const NEXT_LINE: usize = 44;
+pub(crate) const FIRST_CHANNEL_SEQUENCE: usize = 44;
 
-pub(crate) const FRAME_WRITE: usize = 45;
+pub(crate) const NEXT_CHANNEL_SEQUENCE: usize = 45;
 
-pub(crate) const WRITE_ITEM: usize = 46;
+pub(crate) const READER_FIRST_CHANNEL_SEQUENCE: usize = 46;
 
-pub(crate) const DATA_PATH_WRITE: usize = 47;
+pub(crate) const ALL_CHANNEL_SEQUENCES: usize = 47;
 
-pub(crate) const SYNCHRONIZATION_WRITE: usize = 48;
+pub(crate) const FRAME_TAIL: usize = 48;
 
-pub(crate) const SEQUENCE_WRITE: usize = 49;
+pub(crate) const CHANNEL_SEQUENCE_HEAD: usize = 49;
+
+pub(crate) const SEQUENCE_ENTRY: usize = 50;
+
+pub(crate) const DUMP_START: usize = 51;
+
+pub(crate) const LINES: usize = 52;
+
+pub(crate) const DUMP: usize = 53;
+
+pub(crate) const CONSTANTS: usize = 54;
+
+pub(crate) const NEXT_LINE: usize = 55;
+
+pub(crate) const FRAME_WRITE: usize = 56;
+
+pub(crate) const WRITE_ITEM: usize = 57;
+
+pub(crate) const DATA_PATH_WRITE: usize = 58;
+
+pub(crate) const SYNCHRONIZATION_WRITE: usize = 59;
+
+pub(crate) const CHANNEL_SEQUENCE_WRITE: usize = 60;
+
+pub(crate) const SEQUENCE_WRITE: usize = 61;
 
 // The names of the calls, in the order of their numbers.
 pub(crate) fn number_of(word: &[u8]) -> Decimal {
     find(
         b"refusal_number frame_read tx_delta data_path_read data_path_consistent data_path_mend data_path_size \
-        synchronization_read channel_word word_of_channel unicast_options extended_flags has \
-        sequence_consistent sequence_size channel encoding encoding_size entry_size legacy_flags \
-        support_channel channel_bandwidth band step step_with_value value end walk reader_next \
-        first_data_path next_data_path reader_first_data_path all_data_paths first_synchronization \
-        next_synchronization reader_first_synchronization all_synchronizations frame_tail sequence_read \
-        sequence_fixed dump_start lines dump constants next_line frame_write write_item data_path_write \
-        synchronization_write sequence_write",
+        channel_word word_of_channel unicast_options extended_flags has synchronization_read \
+        synchronization_consistent synchronization_size channel_sequence_read channel_sequence_consistent \
+        channel_sequence_size sequence_read sequence_consistent sequence_size sequence_fixed channel \
+        encoding encoding_size entry_size legacy_flags support_channel channel_bandwidth band step \
+        step_with_value value end walk reader_next first_data_path next_data_path reader_first_data_path \
+        all_data_paths first_synchronization next_synchronization reader_first_synchronization \
+        all_synchronizations first_channel_sequence next_channel_sequence reader_first_channel_sequence \
+        all_channel_sequences frame_tail channel_sequence_head sequence_entry dump_start lines dump \
+        constants next_line frame_write write_item data_path_write synchronization_write \
+        channel_sequence_write sequence_write",
         word,
     )
 }
@@ -133,8 +160,8 @@ pub(crate) fn put_letters(buf: &mut [u8; 2048]) -> usize {
     wire::put_slice(
         buf,
         0,
-        b"n g 44 g D D D g 2 kc 4 2 22 Q Q C 1 1 e 1 1 1 1 g8 g8 gI g g g8 g g8 g8 g g g8 g8 g g g81 C g g g t \
-        gMo Fgl 1gl Dl Sl Ql",
+        b"n g 44 g D D D 2 kc 4 2 22 g S S g8 R R g81 Q Q C C 1 1 e 1 1 1 1 g8 g8 gI g g g8 g g8 g8 g g g8 g8 \
+        g g g8 g8 g g R Q8 g g g t gMo Fgl 1gl Dl Sl Rl Ql",
     )
 }
 
@@ -144,7 +171,7 @@ fn put_answer_letters(buf: &mut [u8; 2048]) -> usize {
     wire::put_slice(
         buf,
         0,
-        b"N ZF U ZD T -D Z ZS -K W B B H T Z L E Z Z B B B B",
+        b"N ZF U ZD T -D Z -K W B B H ZS T Z AR T Z AQ T Z -Q L E Z Z B B B B",
     )
 }
 
@@ -153,13 +180,16 @@ fn numbers(call: usize, v: &[u64; 32], given: &[u8]) -> Said {
     if call <= TX_DELTA {
         return crate::frames::answer(call, v, bytes);
     }
-    if call == SYNCHRONIZATION_READ {
-        return crate::synchronization::read(bytes);
-    }
     if call <= HAS {
         return crate::data_path::answer(call, v, bytes);
     }
-    channels::answer(call, v, given)
+    if call <= SYNCHRONIZATION_SIZE {
+        return crate::synchronization::answer(call, v, given);
+    }
+    if call <= SEQUENCE_FIXED {
+        return sequences::answer(call, v, given);
+    }
+    crate::channels::answer(call, v)
 }
 
 fn show_numbers(call: usize, v: &[u64; 32], given: &[u8], out: &mut [u8], at: usize) -> usize {
@@ -185,14 +215,22 @@ fn items(call: usize, v: &[u64; 32], given: &[u8], out: &mut [u8], at: usize) ->
 
 // The letter of the record that a search looks for.
 fn record_sought(call: usize) -> u8 {
-    if call <= ALL_DATA_PATHS { b'D' } else { b'S' }
+    if call <= ALL_DATA_PATHS {
+        return b'D';
+    }
+    if call <= ALL_SYNCHRONIZATIONS {
+        return b'S';
+    }
+    b'R'
 }
 
 fn searches(call: usize, v: &[u64; 32], given: &[u8], out: &mut [u8], at: usize) -> usize {
     let bytes = first(given, size_at(v, 0));
     let record = record_sought(call);
     match call {
-        ALL_DATA_PATHS | ALL_SYNCHRONIZATIONS => items::all(record, bytes, out, at),
+        ALL_DATA_PATHS | ALL_SYNCHRONIZATIONS | ALL_CHANNEL_SEQUENCES => {
+            items::all(record, bytes, out, at)
+        }
         _ => items::search(call, record, bytes, size_at(v, 1), out, at),
     }
 }
@@ -209,8 +247,8 @@ fn texts(
     let bytes = first(given, size_at(v, 0));
     match call {
         FRAME_TAIL => crate::frames::tail(bytes, out, at),
-        SEQUENCE_READ => channels::read(bytes, v, out, at),
-        SEQUENCE_FIXED => channels::fixed(v, out, at),
+        CHANNEL_SEQUENCE_HEAD => sequences::head(v, given, out, at),
+        SEQUENCE_ENTRY => sequences::entry(v, given, out, at),
         DUMP_START => lines::dump_start(bytes, out, at),
         LINES => lines::lines(bytes, Mark::Frame, out, at),
         DUMP => lines::lines(bytes, report::dump_start(bytes), out, at),
@@ -233,7 +271,7 @@ pub(crate) fn answer(
     if call <= READER_NEXT {
         return items(call, v, given, out, at);
     }
-    if call <= ALL_SYNCHRONIZATIONS {
+    if call <= ALL_CHANNEL_SEQUENCES {
         return searches(call, v, given, out, at);
     }
     if call <= NEXT_LINE {

@@ -6,6 +6,7 @@ use crate::output::text;
 use crate::words::nth;
 use crate::words::put_text;
 use action_frame::AWDLActionFrame;
+use channel_sequence::ChannelSequenceTLV;
 use channel_sequence::LegacyFlags;
 use data_path_state::ChannelMap;
 use data_path_state::DataPathExtendedFlags;
@@ -22,9 +23,9 @@ fn put_names(buf: &mut [u8; 2048]) -> usize {
         0,
         b"8NULL= 8SERVICE_RESPONSE= 8SYNCHRONIZATION_PARAMETERS= 8ELECTION_PARAMETERS= 8HT_CAPABILITIES= \
         8DATA_PATH_STATE= 8ARPA= 8IEEE80211_CONTAINER= 8CHANNEL_SEQUENCE= 8SYNCHRONIZATION_TREE= 8VERSION= \
-        8ELECTION_PARAMETERS_V2= 8DATA_PATH_TLV_TYPE= 8SYNCHRONIZATION_TLV_TYPE=\n\
+        8ELECTION_PARAMETERS_V2= 8DATA_PATH_TLV_TYPE= 8SYNCHRONIZATION_TLV_TYPE= 8CHANNEL_SEQUENCE_TLV_TYPE=\n\
         8HEADER_SIZE= 8DATA_PATH_MIN_SIZE= 8DATA_PATH_MAX_SIZE= 8SYNCHRONIZATION_MIN_SIZE= \
-        8SYNCHRONIZATION_MAX_SIZE=\n\
+        8SYNCHRONIZATION_MAX_SIZE= 8CHANNEL_SEQUENCE_MIN_SIZE= 8CHANNEL_SEQUENCE_MAX_SIZE=\n\
         8PSF= 8MIF=\n\
         8INFRA_BSSID_CHANNEL_PRESENT= 8INFRA_ADDRESS_PRESENT= 8AWDL_ADDRESS_PRESENT= 8RSDB_SUPPORT= 8IS_UMI= \
         8DUALBAND_SUPPORT= 8AIRPLAY_SINK= 8FOLLOW_CHANNEL_SEQUENCE= 8COUNTRY_CODE_PRESENT= 8CHANNEL_MAP_PRESENT= \
@@ -58,6 +59,7 @@ fn types() -> Numbers {
         .byte(AWDLTLVType::ELECTION_PARAMETERS_V2)
         .byte(DataPathStateTLV::TLV_TYPE)
         .byte(SynchronizationParametersTLV::TLV_TYPE)
+        .byte(ChannelSequenceTLV::TLV_TYPE)
 }
 
 fn sizes() -> Numbers {
@@ -66,6 +68,8 @@ fn sizes() -> Numbers {
         .size(DataPathStateTLV::MAX_SIZE)
         .size(SynchronizationParametersTLV::MIN_SIZE)
         .size(SynchronizationParametersTLV::MAX_SIZE)
+        .size(ChannelSequenceTLV::MIN_SIZE)
+        .size(ChannelSequenceTLV::MAX_SIZE)
 }
 
 fn subtypes() -> Numbers {
@@ -161,8 +165,10 @@ fn numbers_of(group: usize) -> Numbers {
 pub(crate) fn constants(group: usize, out: &mut [u8], at: usize) -> usize {
     let numbers = numbers_of(group);
     let v = numbers.list;
+    let bytes = numbers.bytes;
     let mut buf = [0u8; 2048];
     let n = put_names(&mut buf);
+    let names = nth(put_text(&buf, n), group, b'\n');
     let behind_why = text(out, at, b"0");
-    show_list(out, behind_why, nth(put_text(&buf, n), group, b'\n'), &v)
+    show_list(out, behind_why, names, &v, &bytes)
 }

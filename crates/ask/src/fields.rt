@@ -29,6 +29,7 @@ pub(crate) fn put_lists(buf: &mut [u8; 2048]) -> usize {
         kchannel_kind= cchannel=\n\
         1encoding= 1first= 1second=\n\
         1encoding= sbytes=\n\
+        1duplicate_count= 1step_count= 2fill_channel= 1encoding= sbytes=\n\
         1subtype= 4phy_tx_time= 4target_tx_time=\n\
         2flags= pcountry_code= 1country_first= 1country_second= pchannel_map= kchannel_kind= cchannel= \
         pinfra_bssid_channel= ainfra_bssid= 2infra_channel= pinfra_address= ainfra= pawdl_address= aawdl= \
@@ -38,15 +39,15 @@ pub(crate) fn put_lists(buf: &mut [u8; 2048]) -> usize {
         1next_channel= 2tx_counter= 1master_channel= 1guard_time= 2aw_period= 2af_period= 2awdl_flags= \
         2aw_ext_length= 2aw_common_length= 2remaining_aw_length= 1min_ext_count= 1max_multicast_ext_count= \
         1max_unicast_ext_count= 1max_af_ext_count= amaster_address= 1presence_mode= 2aw_seq_number= \
-        2ap_beacon_alignment_delta=",
+        2ap_beacon_alignment_delta= 1duplicate_count= 1step_count= 2fill_channel= 1encoding= sbytes=",
     )
 }
 
-const LISTS: usize = 20;
+const LISTS: usize = 21;
 
 // The list that a letter stands for. A letter that stands for none has the empty one.
 pub(crate) fn list_of(lists: &[u8], letter: u8) -> &[u8] {
-    let line = place_of(b"ZANUTWBHLEMIXYKCQFDS", 0, letter);
+    let line = place_of(b"ZANUTWBHLEMIXYKCQRFDS", 0, letter);
     if line == LISTS {
         return first(lists, 0);
     }
@@ -70,7 +71,8 @@ fn put_words(buf: &mut [u8; 2048]) -> usize {
         b"single map\n\
         simple legacy opclass\n\
         too_long frame item data_path synchronization end\n\
-        Short NotAction NotVersion UnicastLength Encoding NoRoom Inconsistent TooLong SentBeforeHandOver\n\
+        Short NotAction NotVersion UnicastLength Encoding NoRoom Inconsistent TooLong SentBeforeHandOver \
+        ChannelCount\n\
         types sizes subtypes data_path_flags extended_flags unicast_options channel_map legacy_flags",
     )
 }
@@ -129,19 +131,26 @@ fn address(out: &mut [u8], at: usize, n: u64) -> usize {
     crate::output::hex(out, at, &bytes)
 }
 
-fn show_one(out: &mut [u8], at: usize, field: &[u8], n: u64) -> usize {
+fn show_one(out: &mut [u8], at: usize, field: &[u8], n: u64, bytes: &[u8; 32]) -> usize {
     let behind_space = text(out, at, b" ");
     let behind_name = text(out, behind_space, rest(field));
     let kind = letter(field, 0);
     match kind {
         b'a' => address(out, behind_name, n),
+        b's' => crate::output::hex(out, behind_name, bytes),
         b'k' | b'm' => show_word(out, behind_name, kind, n),
         _ => number(out, behind_name, n),
     }
 }
 
-// The fields of a list with their numbers.
-pub(crate) fn show_list(out: &mut [u8], at: usize, list: &[u8], v: &[u64; 32]) -> usize {
+// The fields of a list with their numbers, and with the bytes where one is a sequence's.
+pub(crate) fn show_list(
+    out: &mut [u8],
+    at: usize,
+    list: &[u8],
+    v: &[u64; 32],
+    bytes: &[u8; 32],
+) -> usize {
     let mut behind = at;
     let mut from = 0;
     let mut i = 0;
@@ -150,7 +159,8 @@ pub(crate) fn show_list(out: &mut [u8], at: usize, list: &[u8], v: &[u64; 32]) -
             return behind;
         }
         let end = word_end(list, from);
-        behind = show_one(out, behind, between(list, from, end), number_at(v, i));
+        let field = between(list, from, end);
+        behind = show_one(out, behind, field, number_at(v, i), bytes);
         from = end + 1;
         i += 1;
     }
@@ -159,9 +169,11 @@ pub(crate) fn show_list(out: &mut [u8], at: usize, list: &[u8], v: &[u64; 32]) -
 
 pub(crate) fn show(out: &mut [u8], at: usize, record: u8, numbers: Numbers) -> usize {
     let v = numbers.list;
+    let bytes = numbers.bytes;
     let mut buf = [0u8; 2048];
     let n = put_lists(&mut buf);
-    show_list(out, at, list_of(put_text(&buf, n), record), &v)
+    let list = list_of(put_text(&buf, n), record);
+    show_list(out, at, list, &v, &bytes)
 }
 
 // An answer by the letters of its number and of its record. A letter that stands for no list shows nothing.

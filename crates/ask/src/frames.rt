@@ -61,7 +61,8 @@ fn refusal_of(n: u64) -> Refusal {
         5 => Refusal::NoRoom,
         6 => Refusal::Inconsistent,
         7 => Refusal::TooLong,
-        _ => Refusal::SentBeforeHandOver,
+        8 => Refusal::SentBeforeHandOver,
+        _ => Refusal::ChannelCount,
     }
 }
 

@@ -3,8 +3,8 @@ ghost use mathlib.Core.Path.{_≡_};
 ghost use Rattle.ask.specs.Ahead.{placeFound, Ahead};
 ghost use Rattle.wire.specs.Parts.{partAt};
 ghost use Rattle.tlv_items.specs.Items.{stepAt, valueAt, valueStartAt};
-ghost use Rattle.tlvs.specs.Said.{saidFoundDataPath, synchronizationFound};
-ghost use Rattle.tlvs.specs.Search.{nextDataPath, nextSynchronization};
+ghost use Rattle.tlvs.specs.Said.{saidFoundDataPath, synchronizationFound, channelSequenceFound};
+ghost use Rattle.tlvs.specs.Search.{nextDataPath, nextSynchronization, nextChannelSequence};
 use crate::calls;
 use crate::fields::show;
 use crate::fields::show_item;
@@ -17,6 +17,7 @@ use crate::output::named_hex;
 use crate::output::text;
 use tlvs::End;
 use tlvs::Found;
+use tlvs::FoundChannelSequence;
 use tlvs::FoundDataPath;
 use tlvs::FoundSynchronization;
 use tlvs::Item;
@@ -145,6 +146,12 @@ fn reader_synchronization(tail: &[u8], at: usize) -> FoundSynchronization
     ReadTLVs::new(tail).go_on(at).first_synchronization()
 }
 
+fn reader_channel_sequence(tail: &[u8], at: usize) -> FoundChannelSequence
+    ensures { λ r. ⌜ r ≡ channelSequenceFound (nextChannelSequence (now (tail .entry)) at) ⌝ }
+{
+    ReadTLVs::new(tail).go_on(at).first_channel_sequence()
+}
+
 // What a search finds: where it stands, and the numbers of the record.
 struct Looked {
     found: Found,
@@ -177,18 +184,50 @@ fn synchronization(looked: FoundSynchronization) -> Looked
     }
 }
 
-fn look(call: usize, tail: &[u8], place: usize) -> Looked {
+fn channel_sequence(looked: FoundChannelSequence) -> Looked
+    ensures { λ r. ⌜ r .found ≡ looked .found ⌝ }
+{
+    let found = looked.found;
+    let channels = looked.channels;
+    Looked {
+        found,
+        record: none().channel_sequence(channels),
+    }
+}
+
+fn look_for_data_path(call: usize, tail: &[u8], place: usize) -> Looked {
     match call {
         calls::FIRST_DATA_PATH => data_path(tlvs::first_data_path(tail)),
         calls::NEXT_DATA_PATH => data_path(tlvs::next_data_path(tail, place)),
-        calls::READER_FIRST_DATA_PATH => data_path(reader_data_path(tail, place)),
+        _ => data_path(reader_data_path(tail, place)),
+    }
+}
+
+fn look_for_synchronization(call: usize, tail: &[u8], place: usize) -> Looked {
+    match call {
         calls::FIRST_SYNCHRONIZATION => synchronization(tlvs::first_synchronization(tail)),
         calls::NEXT_SYNCHRONIZATION => synchronization(tlvs::next_synchronization(tail, place)),
         _ => synchronization(reader_synchronization(tail, place)),
     }
 }
 
-// Where nothing is found, a synchronization search answers the zero record and a data path search none.
+fn look_for_channel_sequence(call: usize, tail: &[u8], place: usize) -> Looked {
+    match call {
+        calls::FIRST_CHANNEL_SEQUENCE => channel_sequence(tlvs::first_channel_sequence(tail)),
+        calls::NEXT_CHANNEL_SEQUENCE => channel_sequence(tlvs::next_channel_sequence(tail, place)),
+        _ => channel_sequence(reader_channel_sequence(tail, place)),
+    }
+}
+
+fn look(call: usize, record: u8, tail: &[u8], place: usize) -> Looked {
+    match record {
+        b'D' => look_for_data_path(call, tail, place),
+        b'S' => look_for_synchronization(call, tail, place),
+        _ => look_for_channel_sequence(call, tail, place),
+    }
+}
+
+// Where nothing is found, a data path search answers no record and the others the zero one.
 fn show_looked(record: u8, looked: Looked, out: &mut [u8], at: usize) -> usize {
     let found = looked.found;
     let numbers = looked.record;
@@ -201,10 +240,10 @@ fn show_looked(record: u8, looked: Looked, out: &mut [u8], at: usize) -> usize {
         }
         Found::Nothing => {
             let behind_word = text(out, at, b" nothing");
-            if record == b'S' {
-                return show(out, behind_word, record, numbers);
+            if record == b'D' {
+                return behind_word;
             }
-            behind_word
+            show(out, behind_word, record, numbers)
         }
     }
 }
@@ -218,7 +257,7 @@ pub(crate) fn search(
     at: usize,
 ) -> usize {
     let behind_why = text(out, at, b"0");
-    show_looked(record, look(call, tail, place), out, behind_why)
+    show_looked(record, look(call, record, tail, place), out, behind_why)
 }
 
 // The next record of a kind from a place on.
@@ -228,7 +267,10 @@ fn next_record(record: u8, tail: &[u8], place: usize) -> Looked
     if record == b'D' {
         return data_path(tlvs::next_data_path(tail, place));
     }
-    synchronization(tlvs::next_synchronization(tail, place))
+    if record == b'S' {
+        return synchronization(tlvs::next_synchronization(tail, place));
+    }
+    channel_sequence(tlvs::next_channel_sequence(tail, place))
 }
 
 pub(crate) fn all(record: u8, tail: &[u8], out: &mut [u8], at: usize) -> usize {

@@ -13,8 +13,9 @@ fn write(call: usize, v: &[u64; 32], given: &[u8], buf: &mut [u8]) -> Size {
         calls::FRAME_WRITE => crate::frames::write(v, given, buf),
         calls::WRITE_ITEM => tlvs::write_item(byte_at(v, 0), first(given, size_at(v, 1)), buf),
         calls::DATA_PATH_WRITE => crate::data_path::write(v, buf),
-        calls::SYNCHRONIZATION_WRITE => crate::synchronization::write(v, buf),
-        _ => crate::channels::write(v, given, buf),
+        calls::SYNCHRONIZATION_WRITE => crate::synchronization::write(v, given, buf),
+        calls::CHANNEL_SEQUENCE_WRITE => crate::sequences::write_record(v, given, buf),
+        _ => crate::sequences::write(v, given, buf),
     }
 }
 
@@ -30,7 +31,8 @@ fn place_of_room(call: usize) -> usize {
     match call {
         calls::FRAME_WRITE => 4,
         calls::DATA_PATH_WRITE => 28,
-        calls::SYNCHRONIZATION_WRITE => 18,
+        calls::SYNCHRONIZATION_WRITE => 23,
+        calls::CHANNEL_SEQUENCE_WRITE => 5,
         _ => 2,
     }
 }

@@ -15,6 +15,7 @@ mod lend;
 mod lines;
 mod numbers;
 mod output;
+mod sequences;
 mod synchronization;
 mod words;
 

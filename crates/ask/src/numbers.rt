@@ -8,16 +8,18 @@ use wire::Place;
 use wire::Refusal;
 use wire::Size;
 
-// At most 32. No record has more.
+// At most 32, and the bytes that a sequence has at its end. No record has more.
 pub(crate) struct Numbers {
     pub(crate) count: usize,
     pub(crate) list: [u64; 32],
+    pub(crate) bytes: [u8; 32],
 }
 
 pub(crate) fn none() -> Numbers {
     Numbers {
         count: 0,
         list: [0; 32],
+        bytes: [0; 32],
     }
 }
 
@@ -25,9 +27,14 @@ impl Numbers {
     pub(crate) fn and(self, n: u64) -> Numbers {
         let i = self.count;
         let mut list = self.list;
+        let bytes = self.bytes;
         if i < 32 {
             list[i] = n;
-            return Numbers { count: i + 1, list };
+            return Numbers {
+                count: i + 1,
+                list,
+                bytes,
+            };
         }
         self
     }
@@ -57,6 +64,16 @@ impl Numbers {
 
     pub(crate) fn address(self, a: MACAddress) -> Numbers {
         self.and(number_of(a))
+    }
+
+    // The same with a sequence's bytes.
+    pub(crate) fn bytes(self, bytes: [u8; 32]) -> Numbers {
+        let list = self.list;
+        Numbers {
+            count: self.count,
+            list,
+            bytes,
+        }
     }
 
     // The last one, or 0 where there is none.

@@ -1,4 +1,5 @@
 // Synchronization records.
+use crate::calls;
 use crate::fields::address_of;
 use crate::numbers::Numbers;
 use crate::numbers::Said;
@@ -6,11 +7,15 @@ use crate::numbers::byte_at;
 use crate::numbers::none;
 use crate::numbers::number_at;
 use crate::numbers::placed;
+use crate::numbers::size_at;
+use crate::numbers::sized;
 use crate::numbers::word_at;
+use crate::sequences;
+use crate::words::first;
 use synchronization_parameters::SynchronizationParametersTLV;
 use wire::Size;
 
-fn record_of(v: &[u64; 32]) -> SynchronizationParametersTLV {
+fn record_of(v: &[u64; 32], given: &[u8]) -> SynchronizationParametersTLV {
     SynchronizationParametersTLV {
         next_channel: byte_at(v, 0),
         tx_counter: word_at(v, 1),
@@ -30,11 +35,13 @@ fn record_of(v: &[u64; 32]) -> SynchronizationParametersTLV {
         presence_mode: byte_at(v, 15),
         aw_seq_number: word_at(v, 16),
         ap_beacon_alignment_delta: word_at(v, 17),
+        channel_sequence: sequences::record_of(v, 18, given),
     }
 }
 
 pub(crate) fn numbers_of(p: SynchronizationParametersTLV) -> Numbers {
     let master_address = p.master_address;
+    let channels = p.channel_sequence;
     none().byte(p.next_channel)
         .word(p.tx_counter)
         .byte(p.master_channel)
@@ -53,16 +60,33 @@ pub(crate) fn numbers_of(p: SynchronizationParametersTLV) -> Numbers {
         .byte(p.presence_mode)
         .word(p.aw_seq_number)
         .word(p.ap_beacon_alignment_delta)
+        .channel_sequence(channels)
 }
 
 // The library answers a record beside a refusal too, and that one is shown.
-pub(crate) fn read(value: &[u8]) -> Said {
+fn read(value: &[u8]) -> Said {
     let read = SynchronizationParametersTLV::read(value);
     let answer = read.answer;
     let parameters = read.parameters;
     placed(answer).with(numbers_of(parameters))
 }
 
-pub(crate) fn write(v: &[u64; 32], buf: &mut [u8]) -> Size {
-    record_of(v).write(buf)
+fn consistent(v: &[u64; 32], given: &[u8]) -> Said {
+    sequences::judged(record_of(v, given).consistent())
+}
+
+fn size(v: &[u64; 32], given: &[u8]) -> Said {
+    sized(record_of(v, given).size())
+}
+
+pub(crate) fn write(v: &[u64; 32], given: &[u8], buf: &mut [u8]) -> Size {
+    record_of(v, given).write(buf)
+}
+
+pub(crate) fn answer(call: usize, v: &[u64; 32], given: &[u8]) -> Said {
+    match call {
+        calls::SYNCHRONIZATION_READ => read(first(given, size_at(v, 0))),
+        calls::SYNCHRONIZATION_CONSISTENT => consistent(v, given),
+        _ => size(v, given),
+    }
 }

@@ -1,7 +1,7 @@
 -- How tests go over a list from the front, and how entries are put behind one another: what is left of the list decides, or is still to be put.
 -- Assumes nothing.
 use Prim.Native.Nat.{ℕ, zero, suc, _+_, _-_, _*_, _≤_, _<_}
-use native.Mathlib.Nat.{add-assoc, sub-zero, zero-sub, suc-sub-suc}
+use native.Mathlib.Nat.{add-zero, add-assoc, sub-zero, zero-sub, suc-sub-suc}
 use native.Mathlib.Numerals.{add-one, add-two}
 use native.Mathlib.Omega.{arith}
 use mathlib.Core.Path.{_≡_, refl, sym, ap, _∙_}
@@ -9,7 +9,7 @@ use mathlib.Core.Bool.{Bool, true, false, _&&_, and-true}
 use mathlib.Core.List.{List, [], _∷_, _++_, append-assoc, append-nil}
 use lib.Dec.{eqb}
 use lib.ListN.{length, getD, take, drop, set, replicate, length-set}
-use lib.Seq.{drop-cons, drop-drop, take-suc-set, length-take-le}
+use lib.Seq.{getD-drop, drop-cons, drop-drop, take-suc-set, length-take-le}
 use Rattle.wire.specs.Answer.{Answer, answer, refusal}
 use Rattle.wire.specs.Writing.{Put, lengthOf}
 use Rattle.wire.proofs.Stores.{put-all}
@@ -17,6 +17,7 @@ use Rattle.channel_sequence.specs.declared.channel.ChannelEncoding.{Chan
 use Rattle.channel_sequence.specs.declared.channel.ChannelEncoding.the-variants.{Simple, Legacy, OpClass}
 use Rattle.channel_sequence.specs.declared.channel_sequence.ChannelSequence.{ChannelSequence}
 use Rattle.channel_sequence.specs.Channels.{encodingOf, entrySize}
+use Rattle.channel_sequence.specs.Hops.{channelOf}
 use Rattle.channel_sequence.specs.Sequences.{allZero, flagsFit, allFlagsFit, padded, sizeOf, bytesOf, consistentBytes}
 
 -- what stands from a place on begins with the byte there, and with the two there
@@ -38,6 +39,30 @@ first-flags flags (channel ∷ rest) = refl
 
 pub flags-step : (s : List ℕ) (i : ℕ) → i < length s → allFlagsFit (drop i s) ≡ flagsFit (getD s i 0) && allFlagsFit (drop (i + 2) s)
 flags-step s i h = rw (one-at s i h, first-flags (getD s i 0) (drop (i + 1) s), drop-drop 1 (i + 1) s, add-assoc i 1 1)
+
+-- an entry of one byte or of two, as a channel
+start : (s : List ℕ) (i : ℕ) → getD (drop i s) 0 0 ≡ getD s i 0
+start s i = getD-drop i s 0 0 ∙ rw (add-zero i)
+
+front : (k : ℕ) (s : List ℕ) → getD (take (suc k) s) 0 0 ≡ getD s 0 0
+front k [] = refl
+front k (b ∷ s) = refl
+
+second : (s : List ℕ) → getD (take 2 s) 1 0 ≡ getD s 1 0
+second [] = refl
+second (b ∷ []) = refl
+second (b ∷ c ∷ s) = refl
+
+no-second : (s : List ℕ) → getD (take 1 s) 1 0 ≡ 0
+no-second [] = refl
+no-second (b ∷ s) = refl
+
+pub single-channel : (encoding : ℕ) (s : List ℕ) (i : ℕ) → channelOf encoding (take 1 (drop i s)) ≡ record { encoding = encoding; first = getD s i 0; second = 0 }
+single-channel encoding s i = rw (front 0 (drop i s), start s i, no-second (drop i s))
+
+pub pair-channel : (encoding : ℕ) (s : List ℕ) (i : ℕ)
+    → channelOf encoding (take 2 (drop i s)) ≡ record { encoding = encoding; first = getD s i 0; second = getD s (i + 1) 0 }
+pair-channel encoding s i = rw (front 1 (drop i s), start s i, second (drop i s), getD-drop i s 1 0)
 
 -- a turn puts one entry behind what has been passed, and leaves the rest
 pub entry-step : (s : List ℕ) (i a b : ℕ) (rest : List ℕ) → i + 1 < length s

@@ -1,6 +1,10 @@
 pub mod Entries
 pub mod Flags
 pub mod Once
+pub mod Beside
 pub mod RoundTrip
 pub mod ReadConsistent
+pub mod SequenceTLVs
 pub mod Again
+pub mod ReadSequenceTLVs
+pub mod Edges

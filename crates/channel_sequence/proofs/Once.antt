@@ -9,7 +9,9 @@ use Rattle.channel_sequence.specs.declared.channel.ChannelEncoding.{Chan
 use Rattle.channel_sequence.specs.declared.channel.FoundEncoding.{FoundEncoding}
 use Rattle.channel_sequence.specs.declared.channel.Corrected.{Corrected}
 use Rattle.channel_sequence.specs.declared.channel_sequence.Consistency.{Consistency}
-use Rattle.channel_sequence.specs.Said.{saidEncoding, saidCorrected, saidConsistent}
+use Rattle.channel_sequence.specs.declared.channel_sequence.Entry.{Entry}
+use Rattle.channel_sequence.specs.Hops.{Hop, hop, nothing}
+use Rattle.channel_sequence.specs.Said.{saidEncoding, saidCorrected, saidConsistent, saidEntry}
 
 pub onceEncoding : {m : Answer ChannelEncoding} {a b : FoundEncoding} → saidEncoding a ≡ m → saidEncoding b ≡ m → a ≡ b
 onceEncoding =
@@ -24,3 +26,11 @@ pub onceConsistent : {m : Answer Bool} {a b : Consistency} → saidConsistent a 
 onceConsistent =
     only-one saidConsistent (ofAnswer (λ b. cond b Consistency.Yes Consistency.No) Consistency.Refused)
     (elim [ Consistency.Yes ↦ refl | Consistency.No ↦ refl | Consistency.Refused why ↦ refl ])
+
+abbrev entryOf : Hop → Entry
+entryOf (hop channel) = Entry.Channel channel
+entryOf nothing = Entry.Nothing
+
+pub onceEntry : {m : Answer Hop} {a b : Entry} → saidEntry a ≡ m → saidEntry b ≡ m → a ≡ b
+onceEntry =
+    only-one saidEntry (ofAnswer entryOf Entry.Refused) (elim [ Entry.Channel channel ↦ refl | Entry.Nothing ↦ refl | Entry.Refused why ↦ refl ])

@@ -12,7 +12,12 @@ use Rattle.channel_sequence.specs.declared.channel_sequence.Consistency.
 use Rattle.channel_sequence.specs.declared.channel_sequence.ReadSequence.{ReadSequence}
 use Rattle.channel_sequence.specs.declared.channel_sequence.Fixed.{Fixed}
 use Rattle.channel_sequence.specs.declared.channel_sequence.FixedSequence.{FixedSequence}
+use Rattle.channel_sequence.specs.declared.channel_sequence.Entry.{Entry}
+use Rattle.channel_sequence.specs.declared.channel_sequence_tlv.ChannelSequenceTLV.{ChannelSequenceTLV}
+use Rattle.channel_sequence.specs.declared.channel_sequence_tlv.ReadChannelSequence.{ReadChannelSequence}
 use Rattle.channel_sequence.specs.Sequences.{zeroSequence}
+use Rattle.channel_sequence.specs.Hops.{Hop, hop, nothing}
+use Rattle.channel_sequence.specs.SequenceTLVs.{zeroChannelSequence}
 
 abbrev pub saidEncoding : FoundEncoding → Answer ChannelEncoding
 saidEncoding (FoundEncoding.Known encoding) = answer encoding
@@ -27,8 +32,13 @@ saidConsistent Consistency.Yes = answer true
 saidConsistent Consistency.No = answer false
 saidConsistent (Consistency.Refused why) = refusal why
 
--- A sequence holds an array, so the enum stands beside it. These two go the other way: from what is said to the one
--- struct that says it, with the zero sequence on a refusal.
+abbrev pub saidEntry : Entry → Answer Hop
+saidEntry (Entry.Channel channel) = answer (hop channel)
+saidEntry Entry.Nothing = answer nothing
+saidEntry (Entry.Refused why) = refusal why
+
+-- A sequence holds an array, so the enum stands beside it. These go the other way: from what is said to the one
+-- struct that says it, with the zero value on a refusal.
 abbrev pub sequenceRead : Reading ChannelSequence → ReadSequence
 sequenceRead (read q next) = record { answer = Place.At next; sequence = q }
 sequenceRead (refused why) = record { answer = Place.Refused why; sequence = zeroSequence }
@@ -36,3 +46,7 @@ sequenceRead (refused why) = record { answer = Place.Refused why; sequence = zer
 abbrev pub sequenceFixed : Answer ChannelSequence → FixedSequence
 sequenceFixed (answer q) = record { answer = Fixed.Made; sequence = q }
 sequenceFixed (refusal why) = record { answer = Fixed.Refused why; sequence = zeroSequence }
+
+abbrev pub channelSequenceRead : Reading ChannelSequenceTLV → ReadChannelSequence
+channelSequenceRead (read c next) = record { answer = Place.At next; channels = c }
+channelSequenceRead (refused why) = record { answer = Place.Refused why; channels = zeroChannelSequence }

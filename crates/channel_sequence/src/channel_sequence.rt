@@ -1,7 +1,7 @@
 ghost use mathlib.Core.Path.{_≡_};
 ghost use mathlib.Core.List.{_∷_, []};
-ghost use Prim.Native.Nat.{_*_, _≤_};
-ghost use lib.ListN.{length};
+ghost use Prim.Native.Nat.{_*_, _≤_, _<_};
+ghost use lib.ListN.{length, take, drop};
 ghost use Rattle.wire.specs.Reading as Reading;
 ghost use Rattle.wire.specs.Answer.{refusal};
 ghost use Rattle.wire.specs.Said.{saidSize};
@@ -10,7 +10,8 @@ ghost use Rattle.channel_sequence.specs.Channels.{entrySize};
 ghost use Rattle.channel_sequence.specs.Sequences.{allZero, allFlagsFit, consistentBytes, consistent, sizeOf, bytesOf};
 ghost use Rattle.channel_sequence.specs.Sequences.{padded, times, entryOf, consistentEntry, fixed};
 ghost use Rattle.channel_sequence.specs.SequenceReader.{sequence, keptEntries, keptBytes};
-ghost use Rattle.channel_sequence.specs.Said.{saidConsistent, sequenceRead, sequenceFixed};
+ghost use Rattle.channel_sequence.specs.Hops.{entryBytes, channelOf, hopAt};
+ghost use Rattle.channel_sequence.specs.Said.{saidConsistent, saidEntry, sequenceRead, sequenceFixed};
 use crate::channel::Channel;
 use crate::channel::ChannelEncoding;
 use crate::channel::FoundEncoding;
@@ -44,6 +45,13 @@ pub struct FixedSequence {
 pub enum Consistency {
     Yes,
     No,
+    Refused(Refusal),
+}
+
+pub enum Entry {
+    Channel(Channel),
+    // No such item.
+    Nothing,
     Refused(Refusal),
 }
 
@@ -107,6 +115,21 @@ impl ChannelSequence {
         }
     }
 
+    // The hop with a number, from 0, as its bytes stand: the sequence need not be consistent.
+    pub fn entry(self, n: usize) -> Entry
+        ensures { λ r. ⌜ saidEntry r ≡ hopAt self n ⌝ }
+    {
+        match ChannelEncoding::from_bits(self.encoding) {
+            FoundEncoding::Known(known) => {
+                if 16 <= n {
+                    return Entry::Nothing;
+                }
+                Entry::Channel(entry_in(known, self.encoding, &self.bytes, n))
+            }
+            FoundEncoding::Refused(why) => Entry::Refused(why),
+        }
+    }
+
     // One channel sixteen times.
     pub fn fixed_channel_sequence(channel: Channel) -> FixedSequence
         ensures { λ r. ⌜ r ≡ sequenceFixed (fixed channel) ⌝ }
@@ -158,6 +181,33 @@ fn not_fixed(why: Refusal) -> FixedSequence
             encoding: 0,
             bytes: [0; 32],
         },
+    }
+}
+
+fn entry_in(known: ChannelEncoding, encoding: u8, bytes: &[u8; 32], n: usize) -> Channel
+    requires { ⌜ n < 16 ⌝ }
+    ensures { λ r. ⌜ r ≡ channelOf encoding (entryBytes known n (now (bytes .entry))) ⌝ }
+{
+    match known {
+        ChannelEncoding::Simple => Channel {
+            encoding,
+            first: bytes[n],
+            second: 0,
+        },
+        ChannelEncoding::Legacy => pair_at(encoding, bytes, n),
+        ChannelEncoding::OpClass => pair_at(encoding, bytes, n),
+    }
+}
+
+// An entry of two bytes.
+fn pair_at(encoding: u8, bytes: &[u8; 32], n: usize) -> Channel
+    requires { ⌜ n < 16 ⌝ }
+    ensures { λ r. ⌜ r ≡ channelOf encoding (take 2 (drop (2 * n) (now (bytes .entry)))) ⌝ }
+{
+    Channel {
+        encoding,
+        first: bytes[2 * n],
+        second: bytes[2 * n + 1],
     }
 }
 

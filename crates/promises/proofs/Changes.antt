@@ -9,6 +9,8 @@ use lib.Dec.{eqb}
 use borrow.Author.Tests.{ne-eqb}
 use Rattle.wire.specs.Reading.{Reading, Reader, read, refused}
 use Rattle.wire.proofs.Lawful.{Lawful, grown}
+use Rattle.channel_sequence.specs.SequenceTLVReader.{channelSequence}
+use Rattle.channel_sequence.proofs.SequenceTLVs.{channel-sequence-lawful}
 use Rattle.data_path_state.specs.DataPath.{dataPath}
 use Rattle.data_path_state.proofs.Values.{data-path-lawful}
 use Rattle.synchronization_parameters.specs.SynchronizationReader.{synchronization}
@@ -18,7 +20,7 @@ use Rattle.tlv_items.specs.Items.{valueOf}
 use Rattle.tlv_items.specs.Walk.{walk}
 use Rattle.tlvs.specs.Search.{Match as Kept, kept, matched, accepted, allFrom}
 use Rattle.tlv_items.specs.Sent.{AllSendable, Sent, sent, sentIn}
-use Rattle.promises.specs.Later.{Unread, AcceptedValue, as-synchronization, as-data-path, longer, Change, insert, grow, further, Changes, none, more, records}
+use Rattle.promises.specs.Later.{Unread, AcceptedValue, as-synchronization, as-data-path, as-channel-sequence, longer, Change, insert, grow, further, Changes, none, more, records}
 
 -- what a reading gives of a record: one, or none
 abbrev pub readValue : {A : Type 0} → Reading A → List A
@@ -60,38 +62,44 @@ module _ {A : Type 0} (type : ℕ) (reader : Reader A) where
   none-of : (it : Sent) → ¬ (it .type ≡ type) → recordIn type reader it ≡ []
   none-of it apart = rw (ne-eqb (it .type) type apart)
 
-  pub other-longer : (it : Sent) (bytes : List ℕ) → ¬ (it .type ≡ type) → recordIn type reader (longer it bytes) ≡ recordIn type reader it
-  other-longer it bytes apart = none-of (longer it bytes) apart ∙ sym (none-of it apart)
+  -- an item of another type, or a value that the reader accepts
+  data OtherOrRead (it : Sent) : Type 0 where
+    other : ¬ (it .type ≡ type) → OtherOrRead it
+    reads : {a : A} {size : ℕ} → reader (it .value) 0 ≡ read a size → OtherOrRead it
 
-  pub same-longer : Lawful reader → (it : Sent) (bytes : List ℕ) {a : A} {size : ℕ} → reader (it .value) 0 ≡ read a size
-      → recordIn type reader (longer it bytes) ≡ recordIn type reader it
-  same-longer l it bytes e = rw (grown l (it .value) bytes e, e)
+  module _ (lawful : Lawful reader) (skips : (it : Sent) → Unread it → ¬ (it .type ≡ type)) (sorts : (it : Sent) → AcceptedValue it → OtherOrRead it) where
+    stays : (it : Sent) (bytes : List ℕ) → OtherOrRead it → recordIn type reader (longer it bytes) ≡ recordIn type reader it
+    stays it bytes (other apart) = none-of (longer it bytes) apart ∙ sym (none-of it apart)
+    stays it bytes (reads e) = rw (grown lawful (it .value) bytes e, e)
 
-  module _ (skips : (it : Sent) → Unread it → ¬ (it .type ≡ type))
-      (stays : (it : Sent) (bytes : List ℕ) → AcceptedValue it → recordIn type reader (longer it bytes) ≡ recordIn type reader it) where
     change-keeps : {items changed : List Sent} → Change items changed → recordsIn type reader changed ≡ recordsIn type reader items
     change-keeps (insert it u) = rw (none-of it (skips it u))
-    change-keeps (grow it bytes a h) = rw (stays it bytes a)
+    change-keeps (grow it bytes a h) = rw (stays it bytes (sorts it a))
     change-keeps (further it c) = rw (change-keeps c)
 
-    pub changes-keep : {items changed : List Sent} → Changes items changed → recordsIn type reader changed ≡ recordsIn type reader items
+    changes-keep : {items changed : List Sent} → Changes items changed → recordsIn type reader changed ≡ recordsIn type reader items
     changes-keep none = refl
     changes-keep (more c rest) = changes-keep rest ∙ change-keeps c
 
--- the two types that are read
+-- an accepted value, seen from each of the three types that are read
+record Sorted (it : Sent) : Type 0 where
+  synchronizations : OtherOrRead 0x04 synchronization it
+  data-paths : OtherOrRead 0x0C dataPath it
+  channel-sequences : OtherOrRead 0x12 channelSequence it
+
+sorted : (it : Sent) → AcceptedValue it → Sorted it
+sorted it (as-synchronization t e) = record { synchronizations = reads e; data-paths = other (omega arith); channel-sequences = other (omega arith) }
+sorted it (as-data-path t e) = record { synchronizations = other (omega arith); data-paths = reads e; channel-sequences = other (omega arith) }
+sorted it (as-channel-sequence t e) = record { synchronizations = other (omega arith); data-paths = other (omega arith); channel-sequences = reads e }
+
 pub synchronizations-kept : {items changed : List Sent} → Changes items changed → recordsIn 0x04 synchronization changed ≡ recordsIn 0x04 synchronization items
-synchronizations-kept = changes-keep 0x04 synchronization (λ it u. u .no-synchronization) stays
-  where
-    stays : (it : Sent) (bytes : List ℕ) → AcceptedValue it → recordIn 0x04 synchronization (longer it bytes) ≡ recordIn 0x04 synchronization it
-    stays it bytes (as-synchronization t e) = same-longer 0x04 synchronization synchronization-lawful it bytes e
-    stays it bytes (as-data-path t e) = other-longer 0x04 synchronization it bytes (omega arith)
+synchronizations-kept = changes-keep 0x04 synchronization synchronization-lawful (λ it u. u .no-synchronization) (λ it a. sorted it a .synchronizations)
 
 pub data-paths-kept : {items changed : List Sent} → Changes items changed → recordsIn 0x0C dataPath changed ≡ recordsIn 0x0C dataPath items
-data-paths-kept = changes-keep 0x0C dataPath (λ it u. u .no-data-path) stays
-  where
-    stays : (it : Sent) (bytes : List ℕ) → AcceptedValue it → recordIn 0x0C dataPath (longer it bytes) ≡ recordIn 0x0C dataPath it
-    stays it bytes (as-synchronization t e) = other-longer 0x0C dataPath it bytes (omega arith)
-    stays it bytes (as-data-path t e) = same-longer 0x0C dataPath data-path-lawful it bytes e
+data-paths-kept = changes-keep 0x0C dataPath data-path-lawful (λ it u. u .no-data-path) (λ it a. sorted it a .data-paths)
+
+pub channel-sequences-kept : {items changed : List Sent} → Changes items changed → recordsIn 0x12 channelSequence changed ≡ recordsIn 0x12 channelSequence items
+channel-sequences-kept = changes-keep 0x12 channelSequence channel-sequence-lawful (λ it u. u .no-channel-sequence) (λ it a. sorted it a .channel-sequences)
 
 -- items that can be written still can be
 change-fits : {items changed : List Sent} → Change items changed → AllSendable items → AllSendable changed

@@ -7,8 +7,9 @@ use Rattle.wire.specs.Said.{saidU8, saidU16, saidU32, saidAddress, saidPlace, s
 use Rattle.wire.proofs.Once.{onceU8, onceU16, onceU32, onceAddress, oncePlace, onceSize}
 use Rattle.text.proofs.Once.{onceDecimal, oncePutSaid, onceSame}
 use Rattle.channel_sequence.specs.declared.channel.ChannelEncoding.the-variants.{Simple}
-use Rattle.channel_sequence.specs.Said.{saidEncoding, saidCorrected, saidConsistent}
-use Rattle.channel_sequence.proofs.Once.{onceEncoding, onceCorrected, onceConsistent}
+use Rattle.channel_sequence.specs.Hops.{hop, zeroChannel}
+use Rattle.channel_sequence.specs.Said.{saidEncoding, saidCorrected, saidConsistent, saidEntry}
+use Rattle.channel_sequence.proofs.Once.{onceEncoding, onceCorrected, onceConsistent, onceEntry}
 use Rattle.data_path_fields.specs.Said.{saidHead, saidBody}
 use Rattle.data_path_fields.specs.Outcomes.{zeroHead, zeroBody}
 use Rattle.data_path_fields.proofs.Once.{onceHead, onceBody}
@@ -37,12 +38,14 @@ demand1 =
       encoding = call-answers saidEncoding Simple (λ a b e. onceEncoding e refl);
       corrected = call-answers saidCorrected 0 (λ a b e. onceCorrected e refl);
       consistency = call-answers saidConsistent false (λ a b e. onceConsistent e refl);
+      entry = call-answers saidEntry (hop zeroChannel) (λ a b e. onceEntry e refl);
       sequence = λ at. record { refuses = λ why. refl; zero = λ why. refl };
       fixed = record { refuses = λ why. refl; zero = λ why. refl };
       head = reader-answers saidHead zeroHead 0 (λ a b e. onceHead e refl);
       body = λ at. reader-answers saidBody zeroBody at (λ a b e. onceBody e refl);
       data-path = reader-answers saidDataPath zeroDataPath 0 (λ a b e. onceDataPath e refl);
       synchronization = record { refuses = λ why. refl; zero = λ why. refl };
+      channel-sequence = λ at. record { refuses = λ why. refl; zero = λ why. refl };
       frame = reader-answers saidFrame zeroFrame 0 (λ a b e. onceFrame e refl);
       delta = call-answers saidDelta 0 (λ a b e. onceDelta e refl);
       end = λ a b e. onceEnd e refl;

@@ -4,6 +4,8 @@ use mathlib.Core.Path.{refl, sym}
 use Rattle.channel_sequence.proofs.Flags.{kept-mask}
 use Rattle.channel_sequence.proofs.ReadConsistent as Q
 use Rattle.channel_sequence.proofs.Again as Q′
+use Rattle.channel_sequence.proofs.ReadSequenceTLVs as C
+use Rattle.channel_sequence.proofs.SequenceTLVs as C′
 use Rattle.data_path_fields.proofs.OneBit.{has-bit}
 use Rattle.data_path_state.proofs.Sizes.{size-range}
 use Rattle.data_path_state.proofs.Masks.{kept-extended-mask, kept-options-mask}
@@ -12,37 +14,48 @@ use Rattle.data_path_state.proofs.Again as D′
 use Rattle.data_path_state.proofs.FromBytes.{read-ranges, read-exactly}
 use Rattle.data_path_state.proofs.Mending.{mended-consistent, mended-same}
 use Rattle.synchronization_parameters.proofs.Again as S
+use Rattle.synchronization_parameters.proofs.FromBytes as S′
+use Rattle.synchronization_parameters.proofs.Sizes as S″
 use Rattle.tlv_items.proofs.Walks.{gives-walk, gives-walk-once}
 use Rattle.tlvs.proofs.Searches.{gives-all, gives-all-once}
 use Rattle.action_frame.proofs.Again as F
 use Rattle.report.proofs.Report.{gives-dump, gives-once}
 use Rattle.promises.specs.Demand2.{Demand2}
-use Rattle.promises.proofs.RoundTrips.{sequence-round, data-path-round, synchronization-round, item-round, frame-round, tail-round}
+use Rattle.promises.proofs.RoundTrips.{sequence-round, channel-sequence-round, data-path-round, synchronization-round, item-round, frame-round, tail-round}
 
 pub demand2 : Demand2
 demand2 =
     record {
       sequences = sequence-round;
+      channel-sequences = channel-sequence-round;
       data-paths = data-path-round;
       synchronizations = synchronization-round;
       items = item-round;
       frames = frame-round;
       sizes = size-range;
+      channel-sequence-sizes = λ c e. C′.two-sizes c e;
+      synchronization-sizes = λ p e. S″.two-sizes p e;
       extended-mask = kept-extended-mask;
       options-mask = kept-options-mask;
       legacy-mask = kept-mask;
       presence = λ k w. sym (has-bit k w refl);
       sequences-consistent = λ encoding s at e. Q.read-consistent encoding s at e;
+      channel-sequences-consistent = λ s at e. C.read-consistent s at e;
+      channel-sequences-in-width = λ s b at e. C.read-in-width s b at e;
       data-paths-consistent = λ s at e. D.read-consistent s at e;
       data-paths-in-width = λ s b at e. read-ranges s b at e;
+      synchronizations-consistent = λ s e. S.read-consistent s e;
       synchronizations-in-width = λ s b at e. S.read-in-width s b at e;
       headers-consistent = λ s b at e. F.read-in-width s b at e;
       sequences-again = λ encoding s at e. Q′.written-again encoding s at e;
+      channel-sequences-again = λ s b at e. C.written-again s b at e;
       data-paths-again = λ s b at e. D′.written-again s b at e;
       synchronizations-again = λ s b e. S.written-again s b e;
       headers-again = λ s b at e. F.written-again s b at e;
       sequences-exactly = Q.consistent-exactly;
+      channel-sequences-exactly = C.consistent-exactly;
       data-paths-exactly = read-exactly;
+      synchronizations-exactly = S′.consistent-exactly;
       mended-consistent = mended-consistent;
       mended-same = mended-same;
       tails = tail-round;

@@ -2,7 +2,7 @@
 -- Assumes nothing.
 use mathlib.Core.Path.{_≡_}
 use denote.Ref.{now}
-use Prim.Native.Nat.{min}
+use Prim.Native.Nat.{_+_, _*_, min}
 use lib.ListN.{length, replicate}
 use Rattle.wire.specs.Refusals.{numberOf}
 use Rattle.wire.specs.Reading.{field}
@@ -20,7 +20,10 @@ use Rattle.text.specs.Into.{PutSaid, TellsSame}
 use Rattle.channel_sequence.specs.Channels.{encodingOf, entrySize, sizeOfEncoding, keptFlags, supportChannel, channelBandwidth, band, corrected}
 use Rattle.channel_sequence.specs.Sequences as Q
 use Rattle.channel_sequence.specs.SequenceReader.{sequence}
-use Rattle.channel_sequence.specs.Said.{saidEncoding, saidCorrected, saidConsistent, sequenceRead, sequenceFixed}
+use Rattle.channel_sequence.specs.Hops.{hopAt}
+use Rattle.channel_sequence.specs.SequenceTLVs as C
+use Rattle.channel_sequence.specs.SequenceTLVReader.{channelSequence}
+use Rattle.channel_sequence.specs.Said.{saidEncoding, saidCorrected, saidConsistent, saidEntry, sequenceRead, sequenceFixed, channelSequenceRead}
 use Rattle.data_path_fields.specs.Words.{hasAny, extendedKept, optionsKept, channelOf, wordOf}
 use Rattle.data_path_fields.specs.Fields.{head, body}
 use Rattle.data_path_fields.specs.Said.{saidHead, saidBody}
@@ -34,10 +37,10 @@ use Rattle.synchronization_parameters.specs.SynchronizationBytes as S
 use Rattle.synchronization_parameters.specs.Said.{synchronizationRead}
 use Rattle.tlv_items.specs.Items.{stepAt, valueOf, valueStart, valueAt, valueStartAt}
 use Rattle.tlv_items.specs.Walk.{walk, endReport}
-use Rattle.tlvs.specs.Search.{nextDataPath, nextSynchronization}
+use Rattle.tlvs.specs.Search.{nextDataPath, nextSynchronization, nextChannelSequence}
 use Rattle.tlv_items.specs.ItemBytes.{itemBytes}
 use Rattle.tlv_items.specs.Said.{saidEnd}
-use Rattle.tlvs.specs.Said.{saidFoundDataPath, synchronizationFound}
+use Rattle.tlvs.specs.Said.{saidFoundDataPath, synchronizationFound, channelSequenceFound}
 use Rattle.action_frame.specs.Frames as F
 use Rattle.action_frame.specs.Frames.{header, tailOf}
 use Rattle.action_frame.specs.Stamps.{delta}
@@ -51,6 +54,7 @@ use Rattle.channel_sequence.proofs.channel.ChannelEncoding as encodings
 use Rattle.channel_sequence.proofs.channel.LegacyFlags as flags
 use Rattle.channel_sequence.proofs.channel.Channel as channels
 use Rattle.channel_sequence.proofs.channel_sequence.ChannelSequence as sequences
+use Rattle.channel_sequence.proofs.channel_sequence_tlv.ChannelSequenceTLV as channel-sequences
 use Rattle.data_path_fields.proofs as fields
 use Rattle.data_path_state.proofs.data_path_state_tlv.DataPathStateTLV as data-paths
 use Rattle.data_path_fields.proofs.misc.DataPathChannel as words
@@ -70,6 +74,8 @@ pub record EveryCall : Type 2 where
   -- numbers, fields and addresses, read from a place and put at one; a size that has to fit a room
   pub u8-at : Call wire.u8_at.Symbol.routine wire.u8_at.ended
       (λ κs a r e. saidU8 r ≡ number 1 (now (a .0)) (a .1 .0))
+  pub u16-of : Call wire.u16_of.Symbol.routine wire.u16_of.ended
+      (λ κs a r e. r ≡ a .0 + 256 * a .1 .0)
   pub u16-at : Call wire.u16_at.Symbol.routine wire.u16_at.ended
       (λ κs a r e. saidU16 r ≡ number 2 (now (a .0)) (a .1 .0))
   pub u32-at : Call wire.u32_at.Symbol.routine wire.u32_at.ended
@@ -126,17 +132,29 @@ pub record EveryCall : Type 2 where
       (λ κs a r e. r ≡ band (a .0 .0))
   pub corrected-channel : Call channels.channel.Symbol.routine channels.channel.ended
       (λ κs a r e. saidCorrected r ≡ corrected (a .0))
-  -- channel sequences
+  -- channel sequences, their entries, and their records
   pub sequence-read : Call sequences.read.Symbol.routine sequences.read.ended
       (λ κs a r e. r ≡ sequenceRead (sequence (a .1 .1 .0) (now (a .0)) (a .1 .0)))
   pub sequence-consistent : Call sequences.consistent.Symbol.routine sequences.consistent.ended
       (λ κs a r e. saidConsistent r ≡ Q.consistent (a .0))
-  pub sequence-size : Call sequences.size.Symbol.routine sequences.size.ended
-      (λ κs a r e. saidSize r ≡ Q.sizeOf (a .0))
-  pub sequence-write : Call sequences.write.Symbol.routine sequences.write.ended
-      (λ κs a r e. Wrote (now (a .1 .0)) (Q.bytesOf (a .0)) (saidSize r) (now (e .1 .0)))
   pub sequence-fixed-channel-sequence : Call sequences.fixed_channel_sequence.Symbol.routine sequences.fixed_channel_sequence.ended
       (λ κs a r e. r ≡ sequenceFixed (Q.fixed (a .0)))
+  pub sequence-size : Call sequences.size.Symbol.routine sequences.size.ended
+      (λ κs a r e. saidSize r ≡ Q.sizeOf (a .0))
+  pub sequence-entry : Call sequences.entry.Symbol.routine sequences.entry.ended
+      (λ κs a r e. saidEntry r ≡ hopAt (a .0) (a .1 .0))
+  pub sequence-write : Call sequences.write.Symbol.routine sequences.write.ended
+      (λ κs a r e. Wrote (now (a .1 .0)) (Q.bytesOf (a .0)) (saidSize r) (now (e .1 .0)))
+  pub channel-sequence-read : Call channel-sequences.read.Symbol.routine channel-sequences.read.ended
+      (λ κs a r e. r ≡ channelSequenceRead (channelSequence (now (a .0)) (a .1 .0)))
+  pub channel-sequence-consistent : Call channel-sequences.consistent.Symbol.routine channel-sequences.consistent.ended
+      (λ κs a r e. saidConsistent r ≡ C.consistent (a .0))
+  pub channel-sequence-head : Call channel-sequences.head.Symbol.routine channel-sequences.head.ended
+      (λ κs a r e. r ≡ C.headBytes (a .0))
+  pub channel-sequence-write : Call channel-sequences.write.Symbol.routine channel-sequences.write.ended
+      (λ κs a r e. Wrote (now (a .1 .0)) (C.bytesOf (a .0)) (saidSize r) (now (e .1 .0)))
+  pub channel-sequence-size : Call channel-sequences.size.Symbol.routine channel-sequences.size.ended
+      (λ κs a r e. saidSize r ≡ C.sizeOf (a .0))
   -- data path records and their words
   pub data-path-read : Call data-paths.read.Symbol.routine data-paths.read.ended
       (λ κs a r e. saidDataPath r ≡ dataPath (now (a .0)) 0)
@@ -165,8 +183,12 @@ pub record EveryCall : Type 2 where
   -- synchronization records
   pub synchronization-read : Call synchronizations.read.Symbol.routine synchronizations.read.ended
       (λ κs a r e. r ≡ synchronizationRead (synchronization (now (a .0)) 0))
+  pub synchronization-consistent : Call synchronizations.consistent.Symbol.routine synchronizations.consistent.ended
+      (λ κs a r e. saidConsistent r ≡ S.consistent (a .0))
+  pub synchronization-size : Call synchronizations.size.Symbol.routine synchronizations.size.ended
+      (λ κs a r e. saidSize r ≡ S.sizeOf (a .0))
   pub synchronization-write : Call synchronizations.write.Symbol.routine synchronizations.write.ended
-      (λ κs a r e. Wrote (now (a .1 .0)) (answer (S.bytesOf (a .0))) (saidSize r) (now (e .1 .0)))
+      (λ κs a r e. Wrote (now (a .1 .0)) (S.bytesOf (a .0)) (saidSize r) (now (e .1 .0)))
   -- items: a step of the walk, an item's value, the end report, the search for the records of a type, the writer
   pub step : Call items.step.Symbol.routine items.step.ended
       (λ κs a r e. r ≡ stepAt (now (a .0)) (a .1 .0))
@@ -184,6 +206,10 @@ pub record EveryCall : Type 2 where
       (λ κs a r e. r ≡ synchronizationFound (nextSynchronization (now (a .0)) (a .1 .0)))
   pub first-synchronization : Call tlvs.first_synchronization.Symbol.routine tlvs.first_synchronization.ended
       (λ κs a r e. r ≡ synchronizationFound (nextSynchronization (now (a .0)) 0))
+  pub next-channel-sequence : Call tlvs.next_channel_sequence.Symbol.routine tlvs.next_channel_sequence.ended
+      (λ κs a r e. r ≡ channelSequenceFound (nextChannelSequence (now (a .0)) (a .1 .0)))
+  pub first-channel-sequence : Call tlvs.first_channel_sequence.Symbol.routine tlvs.first_channel_sequence.ended
+      (λ κs a r e. r ≡ channelSequenceFound (nextChannelSequence (now (a .0)) 0))
   pub write-item : Call items.write_item.Symbol.routine items.write_item.ended
       (λ κs a r e. Wrote (now (a .1 .1 .0)) (itemBytes (a .0) (now (a .1 .0))) (saidSize r) (now (e .1 .1 .0)))
   -- the reader that keeps its bytes and its place together
@@ -197,6 +223,8 @@ pub record EveryCall : Type 2 where
       (λ κs a r e. saidFoundDataPath r ≡ nextDataPath (now (a .0 .bytes)) (a .0 .at))
   pub read-tlvs-first-synchronization : Call readers.first_synchronization.Symbol.routine readers.first_synchronization.ended
       (λ κs a r e. r ≡ synchronizationFound (nextSynchronization (now (a .0 .bytes)) (a .0 .at)))
+  pub read-tlvs-first-channel-sequence : Call readers.first_channel_sequence.Symbol.routine readers.first_channel_sequence.ended
+      (λ κs a r e. r ≡ channelSequenceFound (nextChannelSequence (now (a .0 .bytes)) (a .0 .at)))
   -- frames: the header, the tail, the writer; the gap between the stamps
   pub frame-read : Call frames.read.Symbol.routine frames.read.ended
       (λ κs a r e. saidFrame r ≡ header (now (a .0)) 0)
@@ -216,6 +244,7 @@ pub every-call : EveryCall
 every-call =
     record {
       u8-at = λ M. wire.u8_at.Met.met;
+      u16-of = λ M. wire.u16_of.Met.met;
       u16-at = λ M. wire.u16_at.Met.met;
       u32-at = λ M. wire.u32_at.Met.met;
       address-at = λ M. wire.address_at.Met.met;
@@ -245,9 +274,15 @@ every-call =
       corrected-channel = λ M. channels.channel.Met.met;
       sequence-read = λ M. sequences.read.Met.met;
       sequence-consistent = λ M. sequences.consistent.Met.met;
-      sequence-size = λ M. sequences.size.Met.met;
-      sequence-write = λ M. sequences.write.Met.met;
       sequence-fixed-channel-sequence = λ M. sequences.fixed_channel_sequence.Met.met;
+      sequence-size = λ M. sequences.size.Met.met;
+      sequence-entry = λ M. sequences.entry.Met.met;
+      sequence-write = λ M. sequences.write.Met.met;
+      channel-sequence-read = λ M. channel-sequences.read.Met.met;
+      channel-sequence-consistent = λ M. channel-sequences.consistent.Met.met;
+      channel-sequence-head = λ M. channel-sequences.head.Met.met;
+      channel-sequence-write = λ M. channel-sequences.write.Met.met;
+      channel-sequence-size = λ M. channel-sequences.size.Met.met;
       data-path-read = λ M. data-paths.read.Met.met;
       data-path-consistent = λ M. data-paths.consistent.Met.met;
       data-path-size = λ M. data-paths.size.Met.met;
@@ -261,6 +296,8 @@ every-call =
       unicast-options-from-bits = λ M. options.from_bits.Met.met;
       extended-flags-from-bits = λ M. extended.from_bits.Met.met;
       synchronization-read = λ M. synchronizations.read.Met.met;
+      synchronization-consistent = λ M. synchronizations.consistent.Met.met;
+      synchronization-size = λ M. synchronizations.size.Met.met;
       synchronization-write = λ M. synchronizations.write.Met.met;
       step = λ M. items.step.Met.met;
       step-with-value = λ M. tlvs.step_with_value.Met.met;
@@ -270,12 +307,15 @@ every-call =
       first-data-path = λ M. tlvs.first_data_path.Met.met;
       next-synchronization = λ M. tlvs.next_synchronization.Met.met;
       first-synchronization = λ M. tlvs.first_synchronization.Met.met;
+      next-channel-sequence = λ M. tlvs.next_channel_sequence.Met.met;
+      first-channel-sequence = λ M. tlvs.first_channel_sequence.Met.met;
       write-item = λ M. items.write_item.Met.met;
       read-tlvs-new = λ M. readers.new.Met.met;
       read-tlvs-go-on = λ M. readers.go_on.Met.met;
       read-tlvs-next = λ M. readers.next.Met.met;
       read-tlvs-first-data-path = λ M. readers.first_data_path.Met.met;
       read-tlvs-first-synchronization = λ M. readers.first_synchronization.Met.met;
+      read-tlvs-first-channel-sequence = λ M. readers.first_channel_sequence.Met.met;
       frame-read = λ M. frames.read.Met.met;
       frame-tail = λ M. frames.tail.Met.met;
       frame-write = λ M. frames.write.Met.met;

@@ -8,6 +8,7 @@ use lib.ListN.{length, take, length-append, take-append-drop}
 use lib.Seq.{length-take-le, take-at, drop-at}
 use Rattle.wire.specs.Reading.{Reader}
 use Rattle.wire.proofs.Lawful.{SameUpTo}
+use Rattle.channel_sequence.specs.SequenceTLVReader.{channelSequence}
 use Rattle.data_path_state.specs.DataPath.{dataPath}
 use Rattle.synchronization_parameters.specs.SynchronizationReader.{synchronization}
 use Rattle.tlv_items.specs.Walk.{whole, walk}
@@ -17,7 +18,7 @@ use Rattle.tlv_items.specs.Sent.{AllSendable, Sent, sentIn, tailWith}
 use Rattle.promises.specs.Later.{Change, further, none, more, WholeFrame, Later, records, received}
 use Rattle.promises.proofs.Tails.{spelt, walked-back}
 use Rattle.promises.proofs.Takes.{header-same}
-use Rattle.promises.proofs.Changes.{recordsIn, records-sent, synchronizations-kept, data-paths-kept, changes-fit}
+use Rattle.promises.proofs.Changes.{recordsIn, records-sent, synchronizations-kept, data-paths-kept, channel-sequences-kept, changes-fit}
 
 pub whole-written : (frame : List ℕ) → WholeFrame frame → frame ≡ take 12 frame ++ tailWith (sentIn (tailOf frame))
 whole-written frame w =
@@ -77,4 +78,9 @@ module _ (before after : List ℕ) (w : WholeFrame before) (later : Later before
 
   pub received-after : received after ≡ received before
   received-after =
-      rw (header-after, records-after 0x04 synchronization (synchronizations-kept (later .changes)), records-after 0x0C dataPath (data-paths-kept (later .changes)))
+      rw (
+        header-after,
+        records-after 0x04 synchronization (synchronizations-kept (later .changes)),
+        records-after 0x0C dataPath (data-paths-kept (later .changes)),
+        records-after 0x12 channelSequence (channel-sequences-kept (later .changes)),
+      )

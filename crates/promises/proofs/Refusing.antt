@@ -7,7 +7,7 @@ use mathlib.Core.Bool.{false, cond}
 use mathlib.Core.List.{List}
 use lib.Dec.{eqb}
 use Rattle.wire.specs.declared.refusal.Refusal.{Refusal}
-use Rattle.wire.specs.declared.refusal.Refusal.the-variants.{Short, NotAction, NotVersion, UnicastLength, Encoding, NoRoom, Inconsistent, TooLong, SentBeforeHandOver}
+use Rattle.wire.specs.declared.refusal.Refusal.the-variants.{Short, NotAction, NotVersion, UnicastLength, Encoding, NoRoom, Inconsistent, TooLong, SentBeforeHandOver, ChannelCount}
 use Rattle.wire.specs.Refusals.{numberOf}
 use Rattle.wire.specs.Reading.{Reading, refused}
 use Rattle.wire.specs.Answer.{Answer, answer, refusal}
@@ -16,7 +16,7 @@ use Rattle.wire.specs.Writing.{fits, Put, afterwards, Wrote}
 use Rattle.wire.proofs.Once.{only-one}
 use Rattle.promises.specs.Answers.{refusedOutcome, refusedResult, Once, Answering}
 
-pub number-range : (why : Refusal) → (1 ≤ numberOf why) × (numberOf why ≤ 9)
+pub number-range : (why : Refusal) → (1 ≤ numberOf why) × (numberOf why ≤ 10)
 number-range Short = omega arith
 number-range NotAction = omega arith
 number-range NotVersion = omega arith
@@ -26,6 +26,7 @@ number-range NoRoom = omega arith
 number-range Inconsistent = omega arith
 number-range TooLong = omega arith
 number-range SentBeforeHandOver = omega arith
+number-range ChannelCount = omega arith
 
 -- the refusal that has a number
 abbrev numbered : ℕ → Refusal
@@ -37,7 +38,8 @@ numbered n =
     (cond (eqb n 5) Encoding
     (cond (eqb n 6) NoRoom
     (cond (eqb n 7) Inconsistent
-    (cond (eqb n 8) TooLong SentBeforeHandOver)))))))
+    (cond (eqb n 8) TooLong
+    (cond (eqb n 9) SentBeforeHandOver ChannelCount))))))))
 
 pub numbers-apart : (why other : Refusal) → numberOf why ≡ numberOf other → why ≡ other
 numbers-apart why other e = only-one numberOf numbered back e refl
@@ -52,6 +54,7 @@ numbers-apart why other e = only-one numberOf numbered back e refl
     back Inconsistent = refl
     back TooLong = refl
     back SentBeforeHandOver = refl
+    back ChannelCount = refl
 
 pub reader-answers : {T A : Type 0} (said : T → Reading A) (nothing : A) (at : ℕ) → Once said
     → Answering said refused (λ a. outcome nothing at (said a)) (refusedOutcome nothing)

@@ -13,10 +13,10 @@ use Rattle.wire.specs.Reading.{Reader, read}
 use Rattle.wire.specs.Answer.{answer}
 use Rattle.wire.proofs.ReadsBack.{Back}
 use Rattle.channel_sequence.proofs.RoundTrip as Q
+use Rattle.channel_sequence.proofs.SequenceTLVs as C
 use Rattle.data_path_state.specs.Bytes.{recordBytes}
 use Rattle.data_path_state.proofs.Sizes.{length-record}
 use Rattle.data_path_state.proofs.RoundTrip as D
-use Rattle.synchronization_parameters.specs.SynchronizationBytes.{bytesOf}
 use Rattle.synchronization_parameters.proofs.RoundTrip as S
 use Rattle.tlv_items.specs.declared.item.Step.{Step}
 use Rattle.tlv_items.specs.Walk.{whole, walk}
@@ -26,7 +26,7 @@ use Rattle.tlv_items.proofs.RoundTrip as T
 use Rattle.action_frame.specs.Frames as F′
 use Rattle.action_frame.proofs.RoundTrip as F
 use Rattle.tlv_items.specs.Sent.{Sent, AllSendable, sentIn, tailWith}
-use Rattle.promises.specs.Formats.{Format, Fills, RoundTrip, sequences, dataPaths, synchronizations, items, frames}
+use Rattle.promises.specs.Formats.{Format, Fills, RoundTrip, sequences, channelSequences, dataPaths, synchronizations, items, frames}
 use Rattle.promises.proofs.Tails.{walked-back}
 
 -- what is read back with anything behind is read back from a buffer
@@ -51,13 +51,19 @@ start {bytes = bytes} {a = a} b behind = b .back [] behind ∙ ap (read a) (zero
 pub sequence-round : RoundTrip sequences
 sequence-round q ok = let w = Q.round-trip q (ok .0) (ok .1) in fills sequences q (w .bytes) (w .written) (w .size) (start (w .back))
 
+pub channel-sequence-round : RoundTrip channelSequences
+channel-sequence-round c ok =
+    let w = C.round-trip c (ok .0) (ok .1) (ok .2) in
+    fills channelSequences c (w .bytes) (w .written) (w .size) (start (w .back))
+
 pub data-path-round : RoundTrip dataPaths
 data-path-round r ok =
     fills dataPaths r (recordBytes r) (rw (ok .1)) (rw (ok .1, length-record r (ok .1))) (start (D.record-back r (ok .0) (ok .1)))
 
 pub synchronization-round : RoundTrip synchronizations
 synchronization-round p ok =
-    fills synchronizations p (bytesOf p) refl (ap answer (sym (S.length-bytes p))) (start (S.synchronization-back p ok))
+    let w = S.round-trip p (ok .0) (ok .1) (ok .2) in
+    fills synchronizations p (w .bytes) (w .written) (w .size) (start (w .back))
 
 pub item-round : RoundTrip items
 item-round it ok =

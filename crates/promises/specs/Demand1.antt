@@ -18,8 +18,10 @@ use Rattle.text.specs.Said.{saidDecimal}
 use Rattle.text.specs.Into.{PutSaid, TellsSame}
 use Rattle.channel_sequence.specs.declared.channel.ChannelEncoding.the-variants.{Simple}
 use Rattle.channel_sequence.specs.Sequences.{zeroSequence}
-use Rattle.channel_sequence.specs.Said.{saidEncoding, saidCorrected, saidConsistent, sequenceRead, sequenceFixed}
-use Rattle.channel_sequence.specs.Outcomes.{resultEncoding, resultCorrected, resultConsistent, outcomeSequence, resultFixed}
+use Rattle.channel_sequence.specs.Hops.{hop, zeroChannel}
+use Rattle.channel_sequence.specs.SequenceTLVs.{zeroChannelSequence}
+use Rattle.channel_sequence.specs.Said.{saidEncoding, saidCorrected, saidConsistent, saidEntry, sequenceRead, sequenceFixed, channelSequenceRead}
+use Rattle.channel_sequence.specs.Outcomes.{resultEncoding, resultCorrected, resultConsistent, resultEntry, outcomeSequence, resultFixed, outcomeChannelSequence}
 use Rattle.data_path_fields.specs.Said.{saidHead, saidBody}
 use Rattle.data_path_fields.specs.Outcomes.{zeroHead, zeroBody, outcomeHead, outcomeBody}
 use Rattle.data_path_state.specs.Said.{saidDataPath}
@@ -35,8 +37,8 @@ use Rattle.action_frame.specs.Outcomes.{outcomeFrame, resultDelta}
 use Rattle.promises.specs.Answers.{refusedOutcome, refusedResult, Once, Answering, HeldBeside}
 
 pub record Demand1 : Type 0 where
-  -- a refusal's number is one of 1 to 9, and each refusal has its own
-  pub numbers : (why : Refusal) → (1 ≤ numberOf why) × (numberOf why ≤ 9)
+  -- a refusal's number is one of 1 to 10, and each refusal has its own
+  pub numbers : (why : Refusal) → (1 ≤ numberOf why) × (numberOf why ≤ 10)
   pub apart : (why other : Refusal) → numberOf why ≡ numberOf other → why ≡ other
   -- a refusal stands for its number, the zero value and size 0, and only one answer meets each statement (where a contract is
   -- an equation of the answer itself, there is nothing to show):
@@ -51,13 +53,15 @@ pub record Demand1 : Type 0 where
   pub encoding : Answering saidEncoding refusal resultEncoding (refusedResult Simple)
   pub corrected : Answering saidCorrected refusal resultCorrected (refusedResult 0)
   pub consistency : Answering saidConsistent refusal resultConsistent (refusedResult false)
+  pub entry : Answering saidEntry refusal resultEntry (refusedResult (hop zeroChannel))
   pub sequence : (at : ℕ) → HeldBeside sequenceRead refused (outcomeSequence at) (refusedOutcome zeroSequence) (λ r. r .sequence) zeroSequence
   pub fixed : HeldBeside sequenceFixed refusal resultFixed (refusedResult zeroSequence) (λ r. r .sequence) zeroSequence
-  -- of the two records, the header and the gap between the stamps, and of the two parts in which a data path record is read
+  -- of the three records, the header and the gap between the stamps, and of the two parts in which a data path record is read
   pub head : Answering saidHead refused outcomeHead (refusedOutcome zeroHead)
   pub body : (at : ℕ) → Answering saidBody refused (outcomeBody at) (refusedOutcome zeroBody)
   pub data-path : Answering saidDataPath refused outcomeDataPath (refusedOutcome zeroDataPath)
   pub synchronization : HeldBeside synchronizationRead refused outcomeSynchronization (refusedOutcome zeroSynchronization) (λ r. r .parameters) zeroSynchronization
+  pub channel-sequence : (at : ℕ) → HeldBeside channelSequenceRead refused (outcomeChannelSequence at) (refusedOutcome zeroChannelSequence) (λ r. r .channels) zeroChannelSequence
   pub frame : Answering saidFrame refused outcomeFrame (refusedOutcome zeroFrame)
   pub delta : Answering saidDelta refusal resultDelta (refusedResult 0)
   -- the end report, the search and the reading of a word refuse nothing

@@ -4,7 +4,7 @@ use Prim.Native.Nat.{ℕ, _^_, _≤_, _<_}
 use mathlib.Core.Path.{_≡_}
 use mathlib.Core.Bool.{true}
 use mathlib.Core.List.{List}
-use mathlib.Core.Logic.{_↔_}
+use mathlib.Core.Logic.{_↔_, _⊎_}
 use lib.Bits.{bitAnd}
 use lib.ListN.{length}
 use Rattle.wire.specs.Reading.{Reader, read}
@@ -16,7 +16,10 @@ use Rattle.channel_sequence.specs.declared.channel_sequence.ChannelSequence.{Ch
 use Rattle.channel_sequence.specs.Channels.{keptFlags}
 use Rattle.channel_sequence.specs.Sequences as Q
 use Rattle.channel_sequence.specs.SequenceReader.{sequence}
-use Rattle.channel_sequence.specs.Widths.{SequenceInWidth}
+use Rattle.channel_sequence.specs.declared.channel_sequence_tlv.ChannelSequenceTLV.{ChannelSequenceTLV}
+use Rattle.channel_sequence.specs.SequenceTLVs as C
+use Rattle.channel_sequence.specs.SequenceTLVReader.{channelSequence}
+use Rattle.channel_sequence.specs.Widths.{SequenceInWidth, ChannelSequenceInWidth}
 use Rattle.channel_sequence.specs.Rewritten as Q′
 use Rattle.data_path_fields.specs.Words.{hasAny, extendedKept, optionsKept}
 use Rattle.data_path_state.specs.declared.data_path_state_tlv.DataPathStateTLV.{DataPathStateTLV}
@@ -28,8 +31,9 @@ use Rattle.data_path_state.specs.Mended.{mended}
 use Rattle.data_path_state.specs.Rewritten as D
 use Rattle.synchronization_parameters.specs.declared.synchronization_parameters_tlv.SynchronizationParametersTLV.{SynchronizationParametersTLV}
 use Rattle.synchronization_parameters.specs.SynchronizationReader.{synchronization}
-use Rattle.synchronization_parameters.specs.SynchronizationBytes.{bytesOf, numbers}
-use Rattle.synchronization_parameters.specs.Rewritten as S
+use Rattle.synchronization_parameters.specs.SynchronizationBytes as S
+use Rattle.synchronization_parameters.specs.Widths.{SynchronizationInWidth}
+use Rattle.synchronization_parameters.specs.Rewritten as S′
 use Rattle.tlv_items.specs.declared.item.Item.{Item}
 use Rattle.tlv_items.specs.Walk.{Ending, whole, walk, GivesItems}
 use Rattle.tlvs.specs.Search.{Match, allOf, nextFrom, GivesRecords}
@@ -45,39 +49,52 @@ use Rattle.promises.specs.Formats.{Bytes, RoundTrip}
 pub record Demand2 : Type 1 where
   -- a consistent record that is written into enough room fills exactly its size, and reads back as itself
   pub sequences : RoundTrip formats.sequences
+  pub channel-sequences : RoundTrip formats.channelSequences
   pub data-paths : RoundTrip formats.dataPaths
   pub synchronizations : RoundTrip formats.synchronizations
   pub items : RoundTrip formats.items
   pub frames : RoundTrip formats.frames
-  -- a data path record takes 2 to 57 bytes
+  -- a data path record takes 2 to 57 bytes, a channel sequence 22 or 38, and a synchronization record 33 more
   pub sizes : (r : DataPathStateTLV) → (2 ≤ sum r) × (sum r ≤ 57)
+  pub channel-sequence-sizes : (c : ChannelSequenceTLV) {n : ℕ} → C.sizeOf c ≡ answer n → (n ≡ 22) ⊎ (n ≡ 38)
+  pub synchronization-sizes : (p : SynchronizationParametersTLV) {n : ℕ} → S.sizeOf p ≡ answer n → (n ≡ 55) ⊎ (n ≡ 71)
   -- a word without its dropped bits is the word AND its mask
   pub extended-mask : (w : ℕ) → wordBy extendedKept w ≡ bitAnd w 0xFF7F
   pub options-mask : (w : ℕ) → wordBy optionsKept w ≡ bitAnd w 0xFFFFFE6A
   pub legacy-mask : (w : ℕ) → keptFlags w ≡ bitAnd w 0x3F
   -- a word has a bit where it has one of the bits of the mask that is that bit alone
   pub presence : (k w : ℕ) → hasAny w (2 ^ k) ≡ bit k w
-  -- what was read is consistent and, of bytes, within its widths, so that it can be written again and read back; a header and a
-  -- synchronization record need only be within their widths
+  -- what was read is consistent and, of bytes, within its widths, so that it can be written again and read back; a header need
+  -- only be within its widths
   pub sequences-consistent : (encoding : ℕ) (s : List ℕ) (at : ℕ) {next : ℕ} {q : ChannelSequence} → sequence encoding s at ≡ read q next
       → (q .encoding ≡ encoding) × (length (q .bytes) ≡ 32) × (Q.consistent q ≡ answer true)
+  pub channel-sequences-consistent : (s : List ℕ) (at : ℕ) {next : ℕ} {c : ChannelSequenceTLV} → channelSequence s at ≡ read c next
+      → (length (c .«channel_sequence» .bytes) ≡ 32) × (C.consistent c ≡ answer true)
+  pub channel-sequences-in-width : (s : List ℕ) → Bytes s → (at : ℕ) {next : ℕ} {c : ChannelSequenceTLV} → channelSequence s at ≡ read c next
+      → AllInWidth (C.numbers c)
   pub data-paths-consistent : (s : List ℕ) (at : ℕ) {next : ℕ} {r : DataPathStateTLV} → dataPath s at ≡ read r next → consistent r ≡ true
   pub data-paths-in-width : (s : List ℕ) → Bytes s → (at : ℕ) {next : ℕ} {r : DataPathStateTLV} → dataPath s at ≡ read r next → Ranges r
+  pub synchronizations-consistent : (s : List ℕ) {p : SynchronizationParametersTLV} {size : ℕ} → synchronization s 0 ≡ read p size
+      → (length (p .«channel_sequence» .«channel_sequence» .bytes) ≡ 32) × (S.consistent p ≡ answer true)
   pub synchronizations-in-width : (s : List ℕ) → Bytes s → (at : ℕ) {next : ℕ} {p : SynchronizationParametersTLV} → synchronization s at ≡ read p next
-      → AllInWidth (numbers p)
+      → AllInWidth (S.numbers p)
   pub headers-consistent : (s : List ℕ) → Bytes s → (at : ℕ) {next : ℕ} {f : AWDLActionFrame} → header s at ≡ read f next → InWidth f
   -- what was read and is written again gives the bytes that `rewritten` says: its own, but for what is dropped
   pub sequences-again : (encoding : ℕ) (s : List ℕ) (at : ℕ) {next : ℕ} {q : ChannelSequence} → sequence encoding s at ≡ read q next
       → (bytes : List ℕ) × (Q.bytesOf q ≡ answer bytes) × (Q′.rewritten encoding s at ≡ read bytes next)
+  pub channel-sequences-again : (s : List ℕ) → Bytes s → (at : ℕ) {next : ℕ} {c : ChannelSequenceTLV} → channelSequence s at ≡ read c next
+      → (bytes : List ℕ) × (C.bytesOf c ≡ answer bytes) × (Q′.rewrittenChannelSequence s at ≡ read bytes next)
   pub data-paths-again : (s : List ℕ) → Bytes s → (at : ℕ) {next : ℕ} {r : DataPathStateTLV} → dataPath s at ≡ read r next
       → D.rewritten s at ≡ read (recordBytes r) next
   pub synchronizations-again : (s : List ℕ) → Bytes s → {p : SynchronizationParametersTLV} {size : ℕ} → synchronization s 0 ≡ read p size
-      → S.rewritten s 0 ≡ read (bytesOf p) size
+      → (bytes : List ℕ) × (S.bytesOf p ≡ answer bytes) × (S′.rewritten s 0 ≡ read bytes size)
   pub headers-again : (s : List ℕ) → Bytes s → (at : ℕ) {next : ℕ} {f : AWDLActionFrame} → header s at ≡ read f next
       → F.rewritten s at ≡ read (headerBytes f) next
   -- a record within its widths is consistent exactly when some bytes are read as it
   pub sequences-exactly : (q : ChannelSequence) → SequenceInWidth q → (Q.consistent q ≡ answer true) ↔ ReadFromBytes (sequence (q .encoding)) q
+  pub channel-sequences-exactly : (c : ChannelSequenceTLV) → ChannelSequenceInWidth c → (C.consistent c ≡ answer true) ↔ ReadFromBytes channelSequence c
   pub data-paths-exactly : (r : DataPathStateTLV) → (Ranges r × (consistent r ≡ true)) ↔ ReadFromBytes dataPath r
+  pub synchronizations-exactly : (p : SynchronizationParametersTLV) → SynchronizationInWidth p → (S.consistent p ≡ answer true) ↔ ReadFromBytes synchronization p
   -- mending makes a record consistent, unless its channel is present and wrong, and leaves a consistent one as it is
   pub mended-consistent : (r : DataPathStateTLV) → ChannelRight r → consistent (mended r) ≡ true
   pub mended-same : (r : DataPathStateTLV) → r .flags .0 < 2 ^ 16 → consistent r ≡ true → mended r ≡ r

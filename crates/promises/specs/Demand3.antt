@@ -5,6 +5,7 @@ use mathlib.Core.List.{List, _∷_, _++_}
 use lib.ListN.{length, take}
 use Rattle.wire.specs.declared.refusal.Refusal.the-variants.{Short}
 use Rattle.wire.specs.Reading.{Reader, read, refused}
+use Rattle.channel_sequence.specs.SequenceTLVReader.{channelSequence}
 use Rattle.data_path_state.specs.DataPath.{dataPath}
 use Rattle.tlv_items.specs.Walk.{whole, walk}
 use Rattle.tlv_items.specs.ItemBytes.{typeLengthValue}
@@ -22,9 +23,10 @@ CutIsShort {A} reader = (value : List ℕ) (a : A) (size k : ℕ) → reader val
 pub record Demand3 : Type 0 where
   -- the header, accepted or refused, and the accepted records of each type that we read stay the same
   pub same : (before after : List ℕ) → WholeFrame before → Later before after → received after ≡ received before
-  -- an accepted value of either type that is cut below its size is short
+  -- an accepted value of each of the three types that is cut below its size is short
   pub synchronization-cut : CutIsShort synchronization
   pub data-path-cut : CutIsShort dataPath
+  pub channel-sequence-cut : CutIsShort channelSequence
   -- what `Later` stands for: the frame is the bytes of its header and then those of its items,
   pub written : (frame : List ℕ) → WholeFrame frame → frame ≡ take 12 frame ++ tailWith (sentIn (tailOf frame))
   -- an item that we do not read can be put in before the first item, behind the last one, and between any two,

@@ -11,6 +11,9 @@ use Rattle.wire.specs.Writing.{Wrote}
 use Rattle.channel_sequence.specs.declared.channel_sequence.ChannelSequence.{ChannelSequence}
 use Rattle.channel_sequence.specs.Sequences as Q
 use Rattle.channel_sequence.specs.SequenceReader.{sequence}
+use Rattle.channel_sequence.specs.declared.channel_sequence_tlv.ChannelSequenceTLV.{ChannelSequenceTLV}
+use Rattle.channel_sequence.specs.SequenceTLVs as C
+use Rattle.channel_sequence.specs.SequenceTLVReader.{channelSequence}
 use Rattle.data_path_state.specs.declared.data_path_state_tlv.DataPathStateTLV.{DataPathStateTLV}
 use Rattle.data_path_state.specs.DataPath.{dataPath}
 use Rattle.data_path_state.specs.Ranges.{Ranges}
@@ -75,14 +78,23 @@ dataPaths =
       ReadAs = λ r s n. dataPath s 0 ≡ read r n;
     }
 
--- every record is consistent, and takes 33 bytes
+abbrev pub channelSequences : Format
+channelSequences =
+    record {
+      Record = ChannelSequenceTLV;
+      bytes = C.bytesOf;
+      size = C.sizeOf;
+      Consistent = λ c. AllInWidth (C.numbers c) × (length (c .«channel_sequence» .bytes) ≡ 32) × (C.consistent c ≡ answer true);
+      ReadAs = λ c s n. channelSequence s 0 ≡ read c n;
+    }
+
 abbrev pub synchronizations : Format
 synchronizations =
     record {
       Record = SynchronizationParametersTLV;
-      bytes = λ p. answer (S.bytesOf p);
-      size = λ p. answer 33;
-      Consistent = λ p. AllInWidth (S.numbers p);
+      bytes = S.bytesOf;
+      size = S.sizeOf;
+      Consistent = λ p. AllInWidth (S.numbers p) × (length (p .«channel_sequence» .«channel_sequence» .bytes) ≡ 32) × (S.consistent p ≡ answer true);
       ReadAs = λ p s n. synchronization s 0 ≡ read p n;
     }
 

@@ -4,6 +4,8 @@ use Prim.Native.Nat.{ℕ, _≤_}
 use mathlib.Core.List.{List, _∷_, _++_, map}
 use lib.ListN.{length, take}
 use Rattle.wire.specs.Reading.{Reading, Reader, read}
+use Rattle.channel_sequence.specs.declared.channel_sequence_tlv.ChannelSequenceTLV.{ChannelSequenceTLV}
+use Rattle.channel_sequence.specs.SequenceTLVReader.{channelSequence}
 use Rattle.data_path_state.specs.declared.data_path_state_tlv.DataPathStateTLV.{DataPathStateTLV}
 use Rattle.data_path_state.specs.DataPath.{dataPath}
 use Rattle.synchronization_parameters.specs.declared.synchronization_parameters_tlv.SynchronizationParametersTLV.{SynchronizationParametersTLV}
@@ -20,11 +22,13 @@ pub record Unread (it : Sent) : Type 0 where
   pub sendable : Sendable it
   pub no-synchronization : ¬ (it .type ≡ 0x04)
   pub no-data-path : ¬ (it .type ≡ 0x0C)
+  pub no-channel-sequence : ¬ (it .type ≡ 0x12)
 
 -- an item of a type that we read, whose value its reader accepts
 pub data AcceptedValue (it : Sent) : Type 0 where
   as-synchronization : {p : SynchronizationParametersTLV} {size : ℕ} → it .type ≡ 0x04 → synchronization (it .value) 0 ≡ read p size → AcceptedValue it
   as-data-path : {r : DataPathStateTLV} {size : ℕ} → it .type ≡ 0x0C → dataPath (it .value) 0 ≡ read r size → AcceptedValue it
+  as-channel-sequence : {c : ChannelSequenceTLV} {size : ℕ} → it .type ≡ 0x12 → channelSequence (it .value) 0 ≡ read c size → AcceptedValue it
 
 abbrev pub longer : Sent → List ℕ → Sent
 longer it more = record { type = it .type; value = it .value ++ more }
@@ -63,6 +67,7 @@ pub record Received : Type 0 where
   pub head : Reading AWDLActionFrame
   pub synchronizations : List SynchronizationParametersTLV
   pub data-paths : List DataPathStateTLV
+  pub channel-sequences : List ChannelSequenceTLV
 
 abbrev pub received : List ℕ → Received
 received frame =
@@ -70,4 +75,5 @@ received frame =
       head = header frame 0;
       synchronizations = records 0x04 synchronization (tailOf frame);
       data-paths = records 0x0C dataPath (tailOf frame);
+      channel-sequences = records 0x12 channelSequence (tailOf frame);
     }

@@ -50,7 +50,7 @@ abbrev pub syncLine : Reading SynchronizationParametersTLV → List ℕ
 syncLine (read p size) = named "sync seq=" (p .«aw_seq_number») ++ text "\n"
 syncLine (refused why) = valueRefused why
 
--- a value of a type that is read has a line, and any other has none
+-- a data path value and a synchronization value have a line, and any other has none, a channel sequence among them
 abbrev pub valueLines : List ℕ → Item → List (List ℕ)
 valueLines tail it =
     cond (eqb (it .«tlv_type») 0x0C) (dataLine (dataPath (valueOf tail it) 0) ∷ [])

@@ -26,7 +26,7 @@ abbrev pub atHeader : Reading AWDLActionFrame → Stand
 atHeader (read f size) = line (headerLine f) (Mark.Item 0 0)
 atHeader (refused why) = line (refusedLine why) Mark.End
 
--- behind an item: its value where that is of a type that is read, or else what follows it
+-- behind an item: its value where that has a line, or else what follows it
 abbrev pub markBehind : Item → ℕ → ℕ → Mark
 markBehind it next items =
     cond (eqb (it .«tlv_type») 0x0C) (Mark.DataPath it next items)

@@ -1,3 +1,6 @@
 pub mod Whole
+pub mod Sizes
 pub mod RoundTrip
 pub mod Again
+pub mod FromBytes
+pub mod Beside

@@ -1,26 +1,21 @@
--- A record whose numbers fit their fields fills 33 bytes and reads back as itself, from any place and with anything behind.
+-- A consistent record whose numbers fit their fields fills exactly its size and reads back as itself, from any place and with anything behind.
 -- Assumes nothing.
-use Prim.Native.Nat.{ℕ, _%_, _^_, _≤_, _<_}
+use Prim.Native.Nat.{ℕ, _+_, _%_, _^_, _<_}
 use native.Mathlib.Omega.{arith}
-use mathlib.Core.Path.{_≡_, refl, subst}
+use mathlib.Core.Path.{_≡_, refl, sym, ap, subst, _∙_}
 use mathlib.Core.Bool.{true}
 use mathlib.Core.List.{List, [], _∷_, _++_}
-use lib.Dec.{leb}
-use lib.ListN.{length, getD, drop}
-use lib.Seq.{drop-append-seam}
-use borrow.Author.Tests.{le-leb}
-use Rattle.wire.specs.Reading.{Reader, read, _>>=_}
+use lib.ListN.{length, getD, take, length-append}
+use Rattle.wire.specs.Reading.{Reader, _>>=_}
 use Rattle.wire.specs.Answer.{answer}
 use Rattle.wire.specs.Numbers.{AllInWidth, one, littleBytes}
-use Rattle.wire.specs.Writing.{within, lengthOf, afterwards}
-use Rattle.wire.proofs.ReadsBack.{Back, bind-back, made-back, field-back, number-on, number-last, address-on}
+use Rattle.wire.proofs.ReadsBack.{Back, bind-back, made-back, field-back, number-on, address-on}
+use Rattle.channel_sequence.specs.SequenceTLVReader.{channelSequence}
+use Rattle.channel_sequence.proofs.SequenceTLVs as C
 use Rattle.synchronization_parameters.specs.declared.synchronization_parameters_tlv.SynchronizationParametersTLV.{SynchronizationParametersTLV}
 use Rattle.synchronization_parameters.specs.SynchronizationReader.{presenceMode, synchronization}
-use Rattle.synchronization_parameters.specs.SynchronizationBytes.{bytesOf, numbers}
-
-pub length-bytes : (p : SynchronizationParametersTLV) → length (bytesOf p) ≡ 33
-unfolding bytesOf
-length-bytes p = refl
+use Rattle.synchronization_parameters.specs.SynchronizationBytes.{consistent, sizeOf, fixedBytes, bytesOf, numbers}
+use Rattle.synchronization_parameters.proofs.Sizes.{length-fixed}
 
 mode-back : (mode : ℕ) → mode < 256 ^ 1 → Back presenceMode (littleBytes 1 mode ++ (0 ∷ [])) mode
 mode-back mode h =
@@ -32,22 +27,41 @@ mode-on : {B : Type 0} (f : ℕ → Reader B) {mode : ℕ} {others : List (ℕ �
     → (AllInWidth others → Back (f mode) bytes b) → AllInWidth ((1, mode) ∷ others) → Back (presenceMode >>= f) (littleBytes 1 mode ++ (0 ∷ []) ++ bytes) b
 mode-on f goes (one h rest) = bind-back f (mode-back _ h) (goes rest)
 
-pub synchronization-back : (p : SynchronizationParametersTLV) → AllInWidth (numbers p) → Back synchronization (bytesOf p) p
-unfolding synchronization bytesOf
-synchronization-back p =
+pub synchronization-back : (p : SynchronizationParametersTLV) {channels : List ℕ} → Back channelSequence channels (p .«channel_sequence») → AllInWidth (numbers p)
+    → Back synchronization (fixedBytes p ++ channels) p
+unfolding synchronization fixedBytes
+synchronization-back p channels =
     number-on 1 _ (number-on 2 _ (number-on 1 _ (number-on 1 _
     (number-on 2 _ (number-on 2 _ (number-on 2 _
     (number-on 2 _ (number-on 2 _ (number-on 2 _
     (number-on 1 _ (number-on 1 _ (number-on 1 _ (number-on 1 _
-    (address-on _ (p .«master_address») (mode-on _ (number-on 2 _ (number-last 2 _)))))))))))))))))
+    (address-on _ (p .«master_address») (mode-on _ (number-on 2 _ (number-on 2 _ (λ rest. made-back _ channels))))))))))))))))))
 
--- a record that is written into enough room reads back as itself, and what stood behind its 33 bytes still stands there
-pub written-back : (p : SynchronizationParametersTLV) → AllInWidth (numbers p) → (s : List ℕ) → 33 ≤ length s
-    → let after : List ℕ = afterwards s (answer (bytesOf p)) (within (length s) (lengthOf (answer (bytesOf p)))) in
-    (synchronization after 0 ≡ read p 33) × (drop 33 after ≡ drop 33 s)
-written-back p f s h =
-    let room : leb 33 (length s) ≡ true = le-leb 33 (length s) h in
-    let rest = drop 33 s in (
-      rw (length-bytes p, room) (rw (length-bytes p) at (synchronization-back p f .back [] rest)),
-      rw (length-bytes p, room) (rw (length-bytes p) at (drop-append-seam (bytesOf p) rest)),
-    )
+-- the numbers of the sequence are the last ones
+behind : (front : List (ℕ × ℕ)) {others : List (ℕ × ℕ)} → AllInWidth (front ++ others) → AllInWidth others
+behind [] fit = fit
+behind (n ∷ front) (one h fit) = behind front fit
+
+pub channels-filled : (p : SynchronizationParametersTLV) → AllInWidth (numbers p) → length (p .«channel_sequence» .«channel_sequence» .bytes) ≡ 32
+    → consistent p ≡ answer true → C.ChannelSequenceFilled (p .«channel_sequence»)
+channels-filled p fit whole e = C.round-trip (p .«channel_sequence») (behind (take 17 (numbers p)) fit) whole e
+
+-- the bytes of a record: as many as its size says, and read back as the record
+pub record SynchronizationFilled (p : SynchronizationParametersTLV) : Type 0 where
+  pub bytes : List ℕ
+  pub written : bytesOf p ≡ answer bytes
+  pub size : sizeOf p ≡ answer (length bytes)
+  pub back : Back synchronization bytes p
+
+pub round-trip : (p : SynchronizationParametersTLV) → AllInWidth (numbers p) → length (p .«channel_sequence» .«channel_sequence» .bytes) ≡ 32
+    → consistent p ≡ answer true → SynchronizationFilled p
+round-trip p fit whole e =
+    let w = channels-filled p fit whole e in
+    let all : length (fixedBytes p ++ w .bytes) ≡ 33 + length (w .bytes) =
+    length-append (fixedBytes p) (w .bytes) ∙ ap (λ (n : ℕ). n + length (w .bytes)) (length-fixed p) in
+    record {
+      bytes = fixedBytes p ++ w .bytes;
+      written = rw (w .written);
+      size = rw (w .size) (ap answer (sym all));
+      back = synchronization-back p (w .back) fit;
+    }

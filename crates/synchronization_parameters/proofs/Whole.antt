@@ -1,4 +1,4 @@
--- A record is read exactly where 33 bytes stand, each field at its offset: the first 33 bytes are taken apart and computed with; a shorter value is a longer one, cut.
+-- Where 33 bytes stand, each field is read at its offset and the sequence decides: these bytes are taken apart and computed with; a shorter value is refused by its widths.
 -- Assumes nothing.
 use Prim.Native.Nat.{ℕ, _+_, _*_, _≤_, _<_}
 use native.Mathlib.Nat.{add-zero}
@@ -9,15 +9,19 @@ use mathlib.Core.Path.{_≡_, sym, ap, subst, _∙_}
 use mathlib.Core.Bool.{true}
 use mathlib.Core.List.{List, [], _∷_, _++_}
 use lib.Dec.{leb}
-use lib.ListN.{length, getD, drop, replicate, length-append}
-use lib.Seq.{take-append-seam}
+use lib.ListN.{length, getD, drop}
 use borrow.Author.Tests.{le-leb, leb-true}
+use Rattle.wire.specs.declared.refusal.Refusal.{Refusal}
 use Rattle.wire.specs.declared.refusal.Refusal.the-variants.{Short}
-use Rattle.wire.specs.Reading.{read, refused}
-use Rattle.wire.specs.Answer.{answer, refusal, placeOf}
+use Rattle.wire.specs.Reading.{read, refused, onward}
+use Rattle.wire.specs.Answer.{answer, refusal}
+use Rattle.wire.specs.Addresses.{addressOf}
 use Rattle.wire.proofs.Bytes.{from, opened}
-use Rattle.wire.proofs.Lawful.{Lawful, cut-short}
-use Rattle.wire.proofs.Fixed.{past, FixedWidths, give-fixed, field-fixed, bind-fixed, number-fixed, address-fixed}
+use Rattle.wire.proofs.Lawful.{Lawful, never, steps, give-lawful, bind-lawful}
+use Rattle.wire.proofs.Fixed.{past, past-short, made-field, Begins, begins-any, begins-field, begins-number}
+use Rattle.channel_sequence.specs.declared.channel_sequence_tlv.ChannelSequenceTLV.{ChannelSequenceTLV}
+use Rattle.channel_sequence.specs.SequenceTLVReader.{channelSequence}
+use Rattle.channel_sequence.proofs.SequenceTLVs.{channel-sequence-lawful}
 use Rattle.synchronization_parameters.specs.declared.synchronization_parameters_tlv.SynchronizationParametersTLV.{SynchronizationParametersTLV}
 use Rattle.synchronization_parameters.specs.SynchronizationReader.{synchronization}
 
@@ -27,9 +31,9 @@ byteAt s at = getD s at 0
 abbrev wordAt : List ℕ → ℕ → ℕ
 wordAt s at = byteAt s at + 256 * byteAt s (at + 1)
 
--- the bytes at their offsets, and some words
-abbrev worded : List ℕ → (a b c d e f g h i : ℕ) → SynchronizationParametersTLV
-worded s a b c d e f g h i =
+-- the bytes at their offsets, a sequence and some words
+abbrev worded : List ℕ → ChannelSequenceTLV → (a b c d e f g h i : ℕ) → SynchronizationParametersTLV
+worded s channels a b c d e f g h i =
     record {
       «next_channel» = byteAt s 0;
       «tx_counter» = a;
@@ -50,50 +54,56 @@ worded s a b c d e f g h i =
       «presence_mode» = byteAt s 27;
       «aw_seq_number» = h;
       «ap_beacon_alignment_delta» = i;
+      «channel_sequence» = channels;
     }
 
--- the fields at their offsets
-abbrev pub fieldsOf : List ℕ → SynchronizationParametersTLV
-fieldsOf s = worded s (wordAt s 1) (wordAt s 5) (wordAt s 7) (wordAt s 9) (wordAt s 11) (wordAt s 13) (wordAt s 15) (wordAt s 29) (wordAt s 31)
+-- the fields at their offsets, and a sequence
+abbrev pub fieldsOf : List ℕ → ChannelSequenceTLV → SynchronizationParametersTLV
+fieldsOf s channels =
+    worded s channels (wordAt s 1) (wordAt s 5) (wordAt s 7) (wordAt s 9) (wordAt s 11) (wordAt s 13) (wordAt s 15) (wordAt s 29) (wordAt s 31)
 
 pub inside : (s : List ℕ) → 33 ≤ length s → (k : ℕ) → leb k 33 ≡ true → leb k (length s) ≡ true
 inside s h k e = le-leb k (length s) (omega (arith, leb-true k 33 e))
 
-pub all-fields : (s : List ℕ) → 33 ≤ length s → synchronization s 0 ≡ read (fieldsOf s) 33
+pub all-fields : (s : List ℕ) → 33 ≤ length s → synchronization s 0 ≡ onward (channelSequence s 33) (λ c next. read (fieldsOf s c) next)
 unfolding synchronization
 all-fields s h =
     let bytes : List ℕ = from s 0 0 33 ++ drop 33 s in
     let enough : 33 ≤ length bytes = omega arith in
-    subst (λ (l : List ℕ). synchronization l 0 ≡ read (fieldsOf l) 33) (opened 33 s h) (simp (inside bytes enough, add-zero))
+    subst (λ (l : List ℕ). synchronization l 0 ≡ onward (channelSequence l 33) (λ c next. read (fieldsOf l c) next)) (opened 33 s h)
+    (simp (inside bytes enough, add-zero))
 
--- the same, with each word by whatever has been shown to be equal to it
-pub all-words : (s : List ℕ) → 33 ≤ length s → {a b c d e f g h i : ℕ}
+-- the same where a sequence was read, with each word by whatever has been shown to be equal to it
+pub all-words : (s : List ℕ) → 33 ≤ length s → {channels : ChannelSequenceTLV} {next : ℕ} → channelSequence s 33 ≡ read channels next → {a b c d e f g h i : ℕ}
     → a ≡ wordAt s 1 → b ≡ wordAt s 5 → c ≡ wordAt s 7 → d ≡ wordAt s 9 → e ≡ wordAt s 11 → f ≡ wordAt s 13 → g ≡ wordAt s 15 → h ≡ wordAt s 29 → i ≡ wordAt s 31
-    → synchronization s 0 ≡ read (worded s a b c d e f g h i) 33
-all-words s enough ea eb ec ed ee ef eg eh ei = rw (ea, eb, ec, ed, ee, ef, eg, eh, ei) (all-fields s enough)
+    → synchronization s 0 ≡ read (worded s channels a b c d e f g h i) next
+all-words s enough entries ea eb ec ed ee ef eg eh ei = rw (ea, eb, ec, ed, ee, ef, eg, eh, ei) (all-fields s enough ∙ rw entries)
 
 -- the width of each field
 abbrev pub widths : List ℕ
 widths = 1 ∷ 2 ∷ 1 ∷ 1 ∷ 2 ∷ 2 ∷ 2 ∷ 2 ∷ 2 ∷ 2 ∷ 1 ∷ 1 ∷ 1 ∷ 1 ∷ 6 ∷ 2 ∷ 2 ∷ 2 ∷ []
 
-pub synchronization-fixed : FixedWidths synchronization widths
+begins : Begins synchronization widths
 unfolding synchronization
-synchronization-fixed =
-    bind-fixed (number-fixed 1) λ _. bind-fixed (number-fixed 2) λ _. bind-fixed (number-fixed 1) λ _. bind-fixed (number-fixed 1) λ _.
-    bind-fixed (number-fixed 2) λ _. bind-fixed (number-fixed 2) λ _. bind-fixed (number-fixed 2) λ _.
-    bind-fixed (number-fixed 2) λ _. bind-fixed (number-fixed 2) λ _. bind-fixed (number-fixed 2) λ _.
-    bind-fixed (number-fixed 1) λ _. bind-fixed (number-fixed 1) λ _. bind-fixed (number-fixed 1) λ _. bind-fixed (number-fixed 1) λ _.
-    bind-fixed address-fixed λ _. bind-fixed (bind-fixed (field-fixed 2) λ bytes. give-fixed (getD bytes 0 0)) λ _.
-    bind-fixed (number-fixed 2) λ _. bind-fixed (number-fixed 2) λ _. give-fixed _
+begins =
+    begins-number 1 λ _. begins-number 2 λ _. begins-number 1 λ _. begins-number 1 λ _.
+    begins-number 2 λ _. begins-number 2 λ _. begins-number 2 λ _. begins-number 2 λ _. begins-number 2 λ _. begins-number 2 λ _.
+    begins-number 1 λ _. begins-number 1 λ _. begins-number 1 λ _. begins-number 1 λ _.
+    begins-field (made-field 6 addressOf) λ _. begins-field (made-field 2 (λ bytes. getD bytes 0 0)) λ _.
+    begins-number 2 λ _. begins-number 2 λ _. begins-any (bind-lawful channel-sequence-lawful λ c. give-lawful _)
 
 pub synchronization-lawful : Lawful synchronization
-synchronization-lawful = synchronization-fixed .lawful
+synchronization-lawful = begins .lawful
+
+-- where a field is refused, so is the value
+pub field-refused : (s : List ℕ) (why : Refusal) → past widths s 0 ≡ refusal why → synchronization s 0 ≡ refused why
+field-refused s why e = begins .refuses s 0 why e
+
+past-widths : (s : List ℕ) → length s < 33 → past widths s 0 ≡ refusal Short
+past-widths s h = past-short 1 (drop 1 widths) s 0 h
 
 pub short : (s : List ℕ) → length s < 33 → synchronization s 0 ≡ refused Short
-short s h =
-    let more : List ℕ = replicate 33 0 in
-    rw (take-append-seam s more) at
-    (cut-short synchronization-lawful (s ++ more) (all-fields (s ++ more) (simp length-append (omega arith))) h)
+short s h = field-refused s Short (past-widths s h)
 
 -- in a value that is too short there is one field more, as long as none was refused
 pub field-left : (s : List ℕ) → length s < 33 → (i at : ℕ) → i ≤ 18 → past widths s 0 ≡ past (drop i widths) s at → i < 18
@@ -101,6 +111,23 @@ field-left s h i at most left =
     dite (decLe 18 i)
     (λ all.
     let last : i ≡ 18 = omega arith in
-    let none : refusal Short ≡ answer at = sym (ap placeOf (short s h)) ∙ synchronization-fixed .place s 0 ∙ left ∙ rw last in
+    let none : refusal Short ≡ answer at = sym (past-widths s h) ∙ left ∙ rw last in
     let z : _≡_ {A = ℕ} 0 1 = cc in absurd (omega arith))
     (λ more. omega arith)
+
+-- what a record was read of: 33 bytes, and the sequence behind them
+pub record FieldsAndChannels (s : List ℕ) (p : SynchronizationParametersTLV) (size : ℕ) : Type 0 where
+  pub enough : 33 ≤ length s
+  pub channels : ChannelSequenceTLV
+  pub entries : channelSequence s 33 ≡ read channels size
+  pub made : fieldsOf s channels ≡ p
+
+pub fields-and-channels : (s : List ℕ) {p : SynchronizationParametersTLV} {size : ℕ} → synchronization s 0 ≡ read p size → FieldsAndChannels s p size
+fields-and-channels s {p} {size} e =
+    dite (decLe 33 (length s))
+    (λ here.
+    let w = steps (channelSequence s 33) (λ c next. read (fieldsOf s c) next) (sym (all-fields s here) ∙ e) in
+    let goes = w .goes in
+    let ends : w .mid ≡ size = cc in
+    record { enough = here; channels = w .first; entries = w .begins ∙ ap (read (w .first)) ends; made = cc })
+    (λ past. absurd (never (sym (short s (omega arith)) ∙ e)))

@@ -1,9 +1,11 @@
--- How the fixed part of a synchronization value is read: its fields, each behind the one before it.
+-- How a synchronization value is read: its fields, each behind the one before it, and then the channel sequence.
 use Prim.Native.Nat.{ℕ}
 use lib.ListN.{getD}
 use Rattle.wire.specs.Reading.{Reader, field, give, _>>=_}
 use Rattle.wire.specs.Numbers.{number}
 use Rattle.wire.specs.Addresses.{address, zeroAddress}
+use Rattle.channel_sequence.specs.SequenceTLVs.{zeroChannelSequence}
+use Rattle.channel_sequence.specs.SequenceTLVReader.{channelSequence}
 use Rattle.synchronization_parameters.specs.declared.synchronization_parameters_tlv.SynchronizationParametersTLV.{SynchronizationParametersTLV}
 
 -- the mode and the reserved byte behind it, which is dropped, are one field
@@ -12,7 +14,7 @@ presenceMode = do
   bytes ← field 2
   give (getD bytes 0 0)
 
--- 33 bytes; what follows them is not looked at
+-- 33 bytes and the sequence; what follows them is not looked at
 unfoldable pub synchronization : Reader SynchronizationParametersTLV
 synchronization = do
   «next_channel» ← number 1
@@ -33,6 +35,7 @@ synchronization = do
   «presence_mode» ← presenceMode
   «aw_seq_number» ← number 2
   «ap_beacon_alignment_delta» ← number 2
+  «channel_sequence» ← channelSequence
   give
       (record {
         «next_channel» = «next_channel»;
@@ -53,6 +56,7 @@ synchronization = do
         «presence_mode» = «presence_mode»;
         «aw_seq_number» = «aw_seq_number»;
         «ap_beacon_alignment_delta» = «ap_beacon_alignment_delta»;
+        «channel_sequence» = «channel_sequence»;
       })
 
 abbrev pub zeroSynchronization : SynchronizationParametersTLV
@@ -76,4 +80,5 @@ zeroSynchronization =
       «presence_mode» = 0;
       «aw_seq_number» = 0;
       «ap_beacon_alignment_delta» = 0;
+      «channel_sequence» = zeroChannelSequence;
     }

@@ -1,4 +1,4 @@
-// The timing that a peer announces: the fixed part of its synchronization value.
+// The timing that a peer announces, with the channels that it hops over: its synchronization value.
 mod synchronization_parameters_tlv;
 
 pub use synchronization_parameters_tlv::ReadSynchronization;

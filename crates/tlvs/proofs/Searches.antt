@@ -26,11 +26,14 @@ use Rattle.tlv_items.proofs.Walks.{gives-walk-at, walk-goes}
 step-behind : (s : List ℕ) (at : ℕ) {f : Step} {it : Item} {next : ℕ} → f ≡ stepAt s at → f ≡ Step.Item it next → next ≡ behindItem it
 step-behind s at p q = let w = step-stands s at (sym p ∙ q) in omega arith
 
+pub step-told : (s : List ℕ) (at : ℕ) {f : Step} {it : Item} {next : ℕ} → f ≡ stepAt s at → f ≡ Step.Item it next → Step.Item it next ≡ stepAt s at
+step-told s at p q = sym q ∙ p
+
 pub step-less : (s : List ℕ) (at : ℕ) {f : Step} {it : Item} {next : ℕ} → f ≡ stepAt s at → f ≡ Step.Item it next → length s - next < length s - at
 step-less s at p q = let w = step-stands s at (sym p ∙ q) in omega arith
 
 -- and what stands at the place has the item's value
-pub value-here : (s : List ℕ) (at : ℕ) {f : Step} {it : Item} {next : ℕ} {value : List ℕ} → value ≡ valueAt s at → f ≡ stepAt s at → f ≡ Step.Item it next
+value-here : (s : List ℕ) (at : ℕ) {f : Step} {it : Item} {next : ℕ} {value : List ℕ} → value ≡ valueAt s at → f ≡ stepAt s at → f ≡ Step.Item it next
     → value ≡ valueOf s it
 value-here s at v p q = v ∙ ap (stepValue s) (sym p ∙ q)
 
@@ -51,16 +54,16 @@ pub record Finds {A : Type 0} (n : ℕ) (r : Reader A) (s : List ℕ) (at : ℕ)
 
 module _ {A : Type 0} (n : ℕ) (r : Reader A) (s : List ℕ) where
   -- what an item gives, by its type and by what the reader finds in its value
-  pub other-type : (it : Item) → (it .«tlv_type» ≡ n → ⊥) → matched n r s it ≡ []
+  other-type : (it : Item) → (it .«tlv_type» ≡ n → ⊥) → matched n r s it ≡ []
   unfolding matched
   other-type it other = rw (ne-eqb (it .«tlv_type») n other)
 
-  pub value-refused : (it : Item) {value : List ℕ} {why : Refusal} → it .«tlv_type» ≡ n → value ≡ valueOf s it → r value 0 ≡ refused why
+  value-refused : (it : Item) {value : List ℕ} {why : Refusal} → it .«tlv_type» ≡ n → value ≡ valueOf s it → r value 0 ≡ refused why
       → matched n r s it ≡ []
   unfolding matched
   value-refused it type here e = rw (eq-eqb (it .«tlv_type») n type, ← here, e)
 
-  pub value-read : (it : Item) {value : List ℕ} {a : A} {size : ℕ} → it .«tlv_type» ≡ n → value ≡ valueOf s it → r value 0 ≡ read a size
+  value-read : (it : Item) {value : List ℕ} {a : A} {size : ℕ} → it .«tlv_type» ≡ n → value ≡ valueOf s it → r value 0 ≡ read a size
       → matched n r s it ≡ record { content = a; item = it } ∷ []
   unfolding matched
   value-read it type here e = rw (eq-eqb (it .«tlv_type») n type, ← here, e)
@@ -78,17 +81,30 @@ module _ {A : Type 0} (n : ℕ) (r : Reader A) (s : List ℕ) where
 
   -- Of a search that came from one place to another, with the same still to be found: it takes the record of the item there,
   -- or passes over the item, or ends where the walk does.
-  pub search-takes : (from at : ℕ) {f : Step} {it : Item} {next : ℕ} {a : A} → nextFrom n r s from ≡ nextFrom n r s at
+  search-takes : (from at : ℕ) {f : Step} {it : Item} {next : ℕ} {a : A} → nextFrom n r s from ≡ nextFrom n r s at
       → f ≡ stepAt s at → f ≡ Step.Item it next → matched n r s it ≡ record { content = a; item = it } ∷ [] → found a it next ≡ nextFrom n r s from
   search-takes from at {it = it} {a = a} same p q h = ap (found a it) (step-behind s at p q) ∙ sym (same ∙ ap firstOf (all-item at (sym p ∙ q) h))
 
-  pub search-passes : (from at : ℕ) {f : Step} {it : Item} {next : ℕ} → nextFrom n r s from ≡ nextFrom n r s at
+  search-passes : (from at : ℕ) {f : Step} {it : Item} {next : ℕ} → nextFrom n r s from ≡ nextFrom n r s at
       → f ≡ stepAt s at → f ≡ Step.Item it next → matched n r s it ≡ [] → nextFrom n r s from ≡ nextFrom n r s next
   search-passes from at same p q h = same ∙ ap firstOf (all-item at (sym p ∙ q) h)
 
   pub search-ends : (from at : ℕ) {last : Step} → nextFrom n r s from ≡ nextFrom n r s at → last ≡ stepAt s at → Last last
       → nothing ≡ nextFrom n r s from
   search-ends from at {last} same p k = sym (same ∙ ap firstOf (all-last at last (sym p) k))
+
+  -- the same, by what a turn knows of the item and of its value
+  pub passes-other : (from at : ℕ) {next : ℕ} {f : Step} {it : Item} → f ≡ Step.Item it next → f ≡ stepAt s at → nextFrom n r s from ≡ nextFrom n r s at
+      → (it .«tlv_type» ≡ n → ⊥) → nextFrom n r s from ≡ nextFrom n r s next
+  passes-other from at {it = it} q p same other = search-passes from at same p q (other-type it other)
+
+  pub passes-refused : (from at : ℕ) {next : ℕ} {f : Step} {it : Item} {value : List ℕ} {why : Refusal} → f ≡ Step.Item it next → f ≡ stepAt s at
+      → nextFrom n r s from ≡ nextFrom n r s at → value ≡ valueAt s at → it .«tlv_type» ≡ n → r value 0 ≡ refused why → nextFrom n r s from ≡ nextFrom n r s next
+  passes-refused from at {it = it} q p same v type e = search-passes from at same p q (value-refused it type (value-here s at v p q) e)
+
+  pub takes-read : (from at : ℕ) {next : ℕ} {f : Step} {it : Item} {value : List ℕ} {a : A} {size : ℕ} → f ≡ Step.Item it next → f ≡ stepAt s at
+      → nextFrom n r s from ≡ nextFrom n r s at → value ≡ valueAt s at → it .«tlv_type» ≡ n → r value 0 ≡ read a size → found a it next ≡ nextFrom n r s from
+  takes-read from at {it = it} q p same v type e = search-takes from at same p q (value-read it type (value-here s at v p q) e)
 
   one : (it : Item) → One it (matched n r s it)
   unfolding matched

@@ -5,6 +5,8 @@ use mathlib.Core.List.{List, [], _∷_, _++_}
 use mathlib.Core.Path.{_≡_}
 use lib.Dec.{eqb}
 use Rattle.wire.specs.Reading.{Reading, Reader, read, refused}
+use Rattle.channel_sequence.specs.declared.channel_sequence_tlv.ChannelSequenceTLV.{ChannelSequenceTLV}
+use Rattle.channel_sequence.specs.SequenceTLVReader.{channelSequence}
 use Rattle.data_path_state.specs.declared.data_path_state_tlv.DataPathStateTLV.{DataPathStateTLV}
 use Rattle.data_path_state.specs.DataPath.{dataPath}
 use Rattle.synchronization_parameters.specs.declared.synchronization_parameters_tlv.SynchronizationParametersTLV.{SynchronizationParametersTLV}
@@ -61,9 +63,12 @@ pub data GivesRecords {A : Type 0} (search : ℕ → Search A) : ℕ → List (M
   givesRecord : {at next : ℕ} {a : A} {it : Item} {rest : List (Match A)} → search at ≡ found a it next
       → GivesRecords search next rest → GivesRecords search at (record { content = a; item = it } ∷ rest)
 
--- the two types that are read
+-- the three types that are read
 abbrev pub nextDataPath : List ℕ → ℕ → Search DataPathStateTLV
 nextDataPath = nextFrom 0x0C dataPath
 
 abbrev pub nextSynchronization : List ℕ → ℕ → Search SynchronizationParametersTLV
 nextSynchronization = nextFrom 0x04 synchronization
+
+abbrev pub nextChannelSequence : List ℕ → ℕ → Search ChannelSequenceTLV
+nextChannelSequence = nextFrom 0x12 channelSequence

@@ -6,10 +6,13 @@ mod values;
 
 pub use read_tlvs::ReadTLVs;
 pub use search::Found;
+pub use search::FoundChannelSequence;
 pub use search::FoundDataPath;
 pub use search::FoundSynchronization;
+pub use search::first_channel_sequence;
 pub use search::first_data_path;
 pub use search::first_synchronization;
+pub use search::next_channel_sequence;
 pub use search::next_data_path;
 pub use search::next_synchronization;
 pub use tlv_items::End;

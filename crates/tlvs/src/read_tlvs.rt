@@ -1,9 +1,10 @@
 ghost use mathlib.Core.Path.{_≡_};
 ghost use Rattle.wire.specs.Parts.{partAt};
 ghost use Rattle.tlv_items.specs.Items.{stepAt, valueAt, valueStartAt};
-ghost use Rattle.tlvs.specs.Search.{nextDataPath, nextSynchronization};
-ghost use Rattle.tlvs.specs.Said.{saidFoundDataPath, synchronizationFound};
+ghost use Rattle.tlvs.specs.Search.{nextDataPath, nextSynchronization, nextChannelSequence};
+ghost use Rattle.tlvs.specs.Said.{saidFoundDataPath, synchronizationFound, channelSequenceFound};
 use crate::search;
+use crate::search::FoundChannelSequence;
 use crate::search::FoundDataPath;
 use crate::search::FoundSynchronization;
 use crate::values;
@@ -50,5 +51,11 @@ impl<'a> ReadTLVs<'a> {
         ensures { λ r. ⌜ r ≡ synchronizationFound (nextSynchronization (now (self .entry .bytes)) (self .entry .at)) ⌝ }
     {
         search::next_synchronization(self.bytes, self.at)
+    }
+
+    pub fn first_channel_sequence(self) -> FoundChannelSequence
+        ensures { λ r. ⌜ r ≡ channelSequenceFound (nextChannelSequence (now (self .entry .bytes)) (self .entry .at)) ⌝ }
+    {
+        search::next_channel_sequence(self.bytes, self.at)
     }
 }

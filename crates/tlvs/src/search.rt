@@ -1,7 +1,8 @@
 ghost use mathlib.Core.Path.{_≡_};
 ghost use Rattle.tlvs.specs.Search as Search;
-ghost use Rattle.tlvs.specs.Said.{saidFoundDataPath, synchronizationFound};
+ghost use Rattle.tlvs.specs.Said.{saidFoundDataPath, synchronizationFound, channelSequenceFound};
 use crate::values::value_at;
+use channel_sequence::ChannelSequenceTLV;
 use data_path_state::DataPathStateTLV;
 use data_path_state::ReadDataPathState;
 use synchronization_parameters::SynchronizationParametersTLV;
@@ -23,11 +24,16 @@ pub enum Found {
     Nothing,
 }
 
-// An enum cannot hold an array, and this record is to hold one: the enum stands beside the record, which is the zero one
-// where there is no such item.
+// An enum cannot hold an array, and these records do: the enum stands beside the record, which is the zero one where there is
+// no such item.
 pub struct FoundSynchronization {
     pub found: Found,
     pub parameters: SynchronizationParametersTLV,
+}
+
+pub struct FoundChannelSequence {
+    pub found: Found,
+    pub channels: ChannelSequenceTLV,
 }
 
 // Each turn looks at one item, and passes over it where it is of another type or its value is refused. The search ends where
@@ -103,4 +109,48 @@ pub fn first_synchronization(tail: &[u8]) -> FoundSynchronization
     ensures { λ r. ⌜ r ≡ synchronizationFound (Search.nextSynchronization (now (tail .entry)) 0) ⌝ }
 {
     next_synchronization(tail, 0)
+}
+
+fn no_channel_sequence() -> FoundChannelSequence
+    ensures { λ r. ⌜ r ≡ channelSequenceFound Search.nothing ⌝ }
+{
+    let refused = ChannelSequenceTLV::read(b"", 0);
+    let channels = refused.channels;
+    FoundChannelSequence {
+        found: Found::Nothing,
+        channels,
+    }
+}
+
+pub fn next_channel_sequence(tail: &[u8], from: usize) -> FoundChannelSequence
+    ensures { λ r. ⌜ r ≡ channelSequenceFound (Search.nextChannelSequence (now (tail .entry)) from) ⌝ }
+{
+    let mut at = from;
+    loop {
+        let found = step(tail, at);
+        let Step::Item(item, behind_item) = found else {
+            return no_channel_sequence();
+        };
+        let value = value_at(tail, at, found);
+        at = behind_item;
+        if item.tlv_type != ChannelSequenceTLV::TLV_TYPE {
+            continue;
+        }
+        let read = ChannelSequenceTLV::read(value, 0);
+        let answer = read.answer;
+        let Place::At(_) = answer else {
+            continue;
+        };
+        let channels = read.channels;
+        return FoundChannelSequence {
+            found: Found::At(item, behind_item),
+            channels,
+        };
+    }
+}
+
+pub fn first_channel_sequence(tail: &[u8]) -> FoundChannelSequence
+    ensures { λ r. ⌜ r ≡ channelSequenceFound (Search.nextChannelSequence (now (tail .entry)) 0) ⌝ }
+{
+    next_channel_sequence(tail, 0)
 }

@@ -1,17 +1,22 @@
--- Formats whose fields have fixed widths: where such a reader ends, and what it refuses, goes by the widths alone.
+-- Formats that begin with fields of fixed widths: where one of these does not fit, the reader refuses, and that goes by the widths alone.
 -- Assumes nothing.
 use Prim.Native.Nat.{ℕ, _+_, _<_}
 use native.Mathlib.Numerals.{add-one}
-use mathlib.Core.Path.{_≡_, refl, sym, _∙_}
-use mathlib.Core.List.{List, [], _∷_, _++_}
+use native.Mathlib.Omega.{arith}
+use mathlib.Core.Path.{_≡_, refl}
+use mathlib.Core.Bool.{Bool, true, false}
+use mathlib.Core.List.{List, [], _∷_}
+use lib.Dec.{leb}
 use lib.ListN.{length, getD, drop}
 use lib.Seq.{drop-cons}
+use borrow.Author.Tests.{lt-leb}
+use Rattle.wire.specs.declared.refusal.Refusal.{Refusal}
+use Rattle.wire.specs.declared.refusal.Refusal.the-variants.{Short}
 use Rattle.wire.specs.Reading.{Reading, Reader, read, refused, give, field, onward, _>>=_}
 use Rattle.wire.specs.Answer.{Answer, answer, refusal, placeOf}
 use Rattle.wire.specs.Answer as Answers
 use Rattle.wire.specs.Numbers.{little, number}
-use Rattle.wire.specs.Addresses.{addressOf, address}
-use Rattle.wire.proofs.Lawful.{Lawful, give-lawful, field-lawful, bind-lawful}
+use Rattle.wire.proofs.Lawful.{Lawful, field-lawful, bind-lawful, made-lawful}
 
 -- what goes on from a place that was given
 infixl 20 _then_
@@ -23,48 +28,53 @@ abbrev pub past : List ℕ → List ℕ → ℕ → Answer ℕ
 past [] s at = answer at
 past (n ∷ ns) s at = placeOf (field n s at) then past ns s
 
-past-append : (xs ys : List ℕ) (s : List ℕ) (at : ℕ) → past (xs ++ ys) s at ≡ past xs s at then past ys s
-past-append [] ys s at = refl
-past-append (n ∷ xs) ys s at = go (placeOf (field n s at)) (λ next. past-append xs ys s next)
-  where
-    go : (a : Answer ℕ) → ((next : ℕ) → past (xs ++ ys) s next ≡ past xs s next then past ys s)
-        → a then past (xs ++ ys) s ≡ a then past xs s then past ys s
-    go (answer next) goes = goes next
-    go (refusal why) goes = refl
-
 -- the widths from the ith on, for code that goes over them
 pub past-step : (ns : List ℕ) (s : List ℕ) (at i : ℕ) → i < length ns
     → past (drop i ns) s at ≡ placeOf (field (getD ns i 0) s at) then past (drop (i + 1) ns) s
 past-step ns s at i h = rw (add-one i, drop-cons ns i 0 h)
 
-pub record FixedWidths {A : Type 0} (r : Reader A) (widths : List ℕ) : Type 0 where
+abbrev pub total : List ℕ → ℕ
+total [] = 0
+total (n ∷ ns) = n + total ns
+
+-- fields that do not all stand within are short, whichever of them it is
+pub past-short : (n : ℕ) (ns : List ℕ) (s : List ℕ) (at : ℕ) → length s < at + total (n ∷ ns) → past (n ∷ ns) s at ≡ refusal Short
+past-short n [] s at h = rw (lt-leb (at + n) (length s) (omega arith))
+past-short n (m ∷ ns) s at h = go (leb (at + n) (length s)) refl (past-short m ns s (at + n) (omega arith))
+  where
+    go : (b : Bool) → leb (at + n) (length s) ≡ b → past (m ∷ ns) s (at + n) ≡ refusal Short → past (n ∷ m ∷ ns) s at ≡ refusal Short
+    go true e more = rw e more
+    go false e more = rw e
+
+-- a reader of one field of a width: a number, an address, or whatever is made of its bytes
+pub record OneField {A : Type 0} (r : Reader A) (width : ℕ) : Type 0 where
   pub lawful : Lawful r
-  pub place : (s : List ℕ) (at : ℕ) → placeOf (r s at) ≡ past widths s at
+  pub place : (s : List ℕ) (at : ℕ) → placeOf (r s at) ≡ placeOf (field width s at)
 
-pub give-fixed : {A : Type 0} (a : A) → FixedWidths (give a) []
-give-fixed a = record { lawful = give-lawful a; place = λ s at. refl }
-
-pub field-fixed : (n : ℕ) → FixedWidths (field n) (n ∷ [])
-field-fixed n = record { lawful = field-lawful n; place = λ s at. go (placeOf (field n s at)) }
+pub made-field : {A : Type 0} (width : ℕ) (g : List ℕ → A) → OneField (field width >>= λ bytes. give (g bytes)) width
+made-field {A} width g = record { lawful = made-lawful g (field-lawful width); place = λ s at. go (field width s at) }
   where
-    go : (a : Answer ℕ) → a ≡ a then answer
-    go (answer next) = refl
-    go (refusal why) = refl
+    go : (r : Reading (List ℕ)) → placeOf (onward {B = A} r (λ bytes next. read (g bytes) next)) ≡ placeOf r
+    go (read bytes next) = refl
+    go (refused why) = refl
 
-pub bind-fixed : {A B : Type 0} {m : Reader A} {f : A → Reader B} {xs ys : List ℕ}
-    → FixedWidths m xs → ((a : A) → FixedWidths (f a) ys) → FixedWidths (m >>= f) (xs ++ ys)
-bind-fixed {A} {B} {m} {f} {xs} {ys} first second =
-    record {
-      lawful = bind-lawful (first .lawful) (λ a. second a .lawful);
-      place = λ s at. go s (m s at) (first .place s at) ∙ sym (past-append xs ys s at);
-    }
+-- a format that begins with fields of some widths, and goes on by what it read: where these are refused, so is it
+pub record Begins {A : Type 0} (r : Reader A) (widths : List ℕ) : Type 0 where
+  pub lawful : Lawful r
+  pub refuses : (s : List ℕ) (at : ℕ) (why : Refusal) → past widths s at ≡ refusal why → r s at ≡ refused why
+
+pub begins-any : {A : Type 0} {r : Reader A} → Lawful r → Begins r []
+begins-any l = record { lawful = l; refuses = λ s at why e. absurd (let z : _≡_ {A = ℕ} 0 1 = cc in omega arith) }
+
+pub begins-field : {A B : Type 0} {m : Reader A} {f : A → Reader B} {n : ℕ} {ns : List ℕ}
+    → OneField m n → ((a : A) → Begins (f a) ns) → Begins (m >>= f) (n ∷ ns)
+begins-field {A} {B} {m} {f} {n} {ns} first rest =
+    record { lawful = bind-lawful (first .lawful) (λ a. rest a .lawful); refuses = λ s at why e. go s why (m s at) (first .place s at) e }
   where
-    go : (s : List ℕ) {place : Answer ℕ} (r : Reading A) → placeOf r ≡ place → placeOf (onward r (λ a next. f a s next)) ≡ place then past ys s
-    go s (read a next) e = rw (← e) (second a .place s next)
-    go s (refused why) e = rw (← e)
+    go : (s : List ℕ) (why : Refusal) {place : Answer ℕ} (r : Reading A) → placeOf r ≡ place → place then past ns s ≡ refusal why
+        → onward r (λ a next. f a s next) ≡ refused why
+    go s why (read a next) p e = rest a .refuses s next why (rw (← p) at e)
+    go s why (refused other) p e = let e′ = rw (← p) at e in let same : other ≡ why = cc in rw same
 
-pub number-fixed : (width : ℕ) → FixedWidths (number width) (width ∷ [])
-number-fixed width = bind-fixed (field-fixed width) (λ bytes. give-fixed (little bytes))
-
-pub address-fixed : FixedWidths address (6 ∷ [])
-address-fixed = bind-fixed (field-fixed 6) (λ bytes. give-fixed (addressOf bytes))
+pub begins-number : {B : Type 0} (width : ℕ) {f : ℕ → Reader B} {ns : List ℕ} → ((v : ℕ) → Begins (f v) ns) → Begins (number width >>= f) (width ∷ ns)
+begins-number width = begins-field (made-field width little)

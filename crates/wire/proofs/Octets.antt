@@ -15,6 +15,16 @@ use Rattle.wire.proofs.Bytes.{from, opened}
 use Rattle.wire.proofs.Lawful.{field-read}
 use Rattle.wire.proofs.Gives.{Gives, gives-give, gives-bind}
 
+-- an octet is its own low byte, and two of them are the bytes of their number
+pub byte : (b : ℕ) → b < 256 → b % 256 ≡ b
+byte b h = omega arith
+
+pub low : (b c : ℕ) → b < 256 → (b + 256 * c) % 256 ≡ b
+low b c h = omega arith
+
+pub high : (b c : ℕ) → b < 256 → c < 256 → (b + 256 * c) / 256 % 256 ≡ c
+high b c h k = omega arith
+
 pub record Octets (s : List ℕ) : Type 0 where
   pub small : (i : ℕ) → getD s i 0 < 256
 
@@ -39,7 +49,7 @@ pub octets-cond : {xs : List ℕ} (b : Bool) → Octets xs → Octets (cond b xs
 octets-cond true p = p
 octets-cond false p = octets-none
 
-octets-take : (n : ℕ) {s : List ℕ} → Octets s → Octets (take n s)
+pub octets-take : (n : ℕ) {s : List ℕ} → Octets s → Octets (take n s)
 octets-take zero p = octets-none
 octets-take (suc n) {s = []} p = octets-none
 octets-take (suc n) {s = b ∷ bs} p = octets-cons (p .small 0) (octets-take n (octets-rest p))

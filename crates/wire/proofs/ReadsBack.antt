@@ -1,17 +1,18 @@
 -- What was written is read back, from any place and with anything behind, proved once for each way of putting readers together.
 -- Assumes nothing.
 use Prim.Native.Nat.{ℕ, zero, suc, _+_, _/_, _^_, _≤_, _<_}
-use native.Mathlib.Nat.{add-zero, add-assoc, pow-suc, div-lt-iff-lt-mul}
+use native.Mathlib.Nat.{add-zero, zero-add, add-assoc, pow-suc, div-lt-iff-lt-mul}
 use native.Mathlib.Omega.{arith}
-use mathlib.Core.Path.{_≡_, refl, ap}
+use mathlib.Core.Path.{_≡_, refl, ap, _∙_}
 use mathlib.Core.Bool.{Bool, true, false, cond}
-use mathlib.Core.List.{List, [], _∷_, _++_, append-assoc}
+use mathlib.Core.List.{List, [], _∷_, _++_, append-assoc, append-nil}
 use lib.Dec.{lit<}
-use lib.ListN.{length, length-append}
+use lib.ListN.{length, getD, length-append}
 use lib.Seq.{drop-append-seam, take-append-seam}
 use borrow.Author.Tests.{le-leb}
 use Rattle.wire.specs.declared.read.MACAddress.{MACAddress}
 use Rattle.wire.specs.Reading.{Reader, read, give, field, _>>=_, when}
+use Rattle.wire.specs.FromBytes.{ReadFromBytes}
 use Rattle.wire.specs.Answer.{Answer, answer, asked}
 use Rattle.wire.specs.Numbers.{AllInWidth, none, one, little, littleBytes, number}
 use Rattle.wire.specs.Addresses.{address, addressOf, addressBytes}
@@ -57,6 +58,11 @@ bind-back {m} f {xs} {ys} {a} {b} first second =
 pub made-back : {A B : Type 0} {m : Reader A} (g : A → B) {bytes : List ℕ} {a : A}
     → Back m bytes a → Back (m >>= λ x. give (g x)) bytes (g a)
 made-back g {bytes} {a} h = record { back = λ before behind. rw (h .back before behind) }
+
+-- bytes that are read back are some that are read
+pub from-bytes : {A : Type 0} {r : Reader A} {bytes : List ℕ} {a : A} → Back r bytes a → ((i : ℕ) → getD bytes i 0 < 256) → ReadFromBytes r a
+from-bytes {bytes = bytes} {a = a} b small =
+    record { bytes = bytes; small = small; size = length bytes; reads = (rw (append-nil bytes) at (b .back [] [])) ∙ ap (read a) (zero-add (length bytes)) }
 
 -- an answer that takes no byte
 pub asked-back : {A : Type 0} {found : Answer A} {a : A} → found ≡ answer a → Back (asked found) [] a

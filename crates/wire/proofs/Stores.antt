@@ -11,8 +11,11 @@ use lib.ListN.{length, getD, set, take, drop, length-append, length-take, length
 use lib.Seq.{paste, paste-zero, paste-suc, take-length, take-at, drop-append-add, drop-drop}
 use borrow.Author.Tests.{le-leb, lt-leb, leb-true, leb-false}
 use Rattle.wire.specs.declared.refusal.Refusal.{Refusal}
-use Rattle.wire.specs.Answer.{Answer, answer, refusal}
+use Rattle.wire.specs.declared.write.Size.{Size}
+use Rattle.wire.specs.Answer.{Answer, answer, refusal, _>>=_}
+use Rattle.wire.specs.Said.{saidSize}
 use Rattle.wire.specs.Writing.{fits, placeBehind, Put, PutIfRoom, within, lengthOf, Wrote}
+use Rattle.wire.proofs.Bytes.{within-room}
 
 pub put-none : (s : List ℕ) (at : ℕ) (bytes : List ℕ) → length s - at < length bytes → Put s at bytes at s
 put-none s at bytes h =
@@ -112,11 +115,32 @@ wrote-all {s} {bytes} {n = n} p e h =
     let room : leb n (length s) ≡ true = le-leb n (length s) h in
     record { size = rw (e, room); buffer = rw (e, room, ← e) (put-all p (omega arith) .1) }
 
+-- the same for one whose size was asked before
+pub wrote-sized : {s bytes : List ℕ} {next : ℕ} {t : List ℕ} {n : ℕ} (written : Answer (List ℕ)) → written ≡ answer bytes → lengthOf written ≡ answer n
+    → PutIfRoom s 0 bytes next t → n ≤ length s → Wrote s written (answer n) t
+wrote-sized {bytes = bytes} {n = n} written w l p h =
+    let many : length bytes ≡ n = let l′ = rw w at l in cc in
+    rw w (wrote-all (p (omega arith)) many h)
+
 -- a writer that refused, and wrote nothing
 pub wrote-none : (s : List ℕ) (bytes : Answer (List ℕ)) {why : Refusal} → refusal why ≡ within (length s) (lengthOf bytes)
     → Wrote s bytes (refusal why) s
 wrote-none s (answer b) e = record { size = e; buffer = rw (← e) }
 wrote-none s (refusal why) e = record { size = e; buffer = refl }
+
+-- a size that was given, and room for it
+abbrev pub RoomFor : Answer ℕ → ℕ → ℕ → Type 0
+RoomFor size n room = (size ≡ answer n) × (n ≤ room)
+
+-- a writer asks the size and then the room for it: where a size was given, it is the record's and there is room for it,
+pub room-for : {room n : ℕ} {asked size : Answer ℕ} {r : Size} → asked ≡ size → saidSize r ≡ within room asked → r ≡ Size.Bytes n → RoomFor size n room
+room-for {room} {size = size} same said given = within-room room size (ap saidSize (sym given) ∙ said ∙ ap (within room) same)
+
+-- and where it was refused, nothing is written
+pub wrote-refused : (s : List ℕ) (bytes : Answer (List ℕ)) {asked size : Answer ℕ} {r : Size} {why : Refusal} → lengthOf bytes ≡ size → asked ≡ size
+    → saidSize r ≡ within (length s) asked → r ≡ Size.Refused why → Wrote s bytes (refusal why) s
+wrote-refused s bytes long same said given =
+    wrote-none s bytes (ap saidSize (sym given) ∙ said ∙ ap (within (length s)) (same ∙ sym long))
 
 -- runs are put one behind the other, from any place
 infixl 20 _and-then_
@@ -142,3 +166,13 @@ _also_ {s} {xs} {mid} {t} {ys} p q room =
     let both = length-append xs ys in
     let first = p (omega arith) in
     put-then first (rw (← put-all first (omega arith) .0) at q) (omega arith)
+
+-- a size of something behind a front of so many bytes
+pub size-behind : (front : ℕ) (size : Answer ℕ) {n : ℕ} → (size >>= λ m. answer (front + m)) ≡ answer n → (m : ℕ) × (size ≡ answer m) × (front + m ≡ n)
+size-behind front (answer m) e = (m, refl, cc)
+size-behind front (refusal why) e = absurd (let z : _≡_ {A = ℕ} 0 1 = cc in omega arith)
+
+pub length-behind : (front : List ℕ) (bytes : Answer (List ℕ)) {size : Answer ℕ} → lengthOf bytes ≡ size
+    → lengthOf (bytes >>= λ b. answer (front ++ b)) ≡ (size >>= λ m. answer (length front + m))
+length-behind front (answer b) e = rw (← e) (ap answer (length-append front b))
+length-behind front (refusal why) e = rw (← e)

@@ -1,7 +1,7 @@
 -- The number of each refusal.
 use Prim.Native.Nat.{ℕ}
 use Rattle.wire.specs.declared.refusal.Refusal.{Refusal}
-use Rattle.wire.specs.declared.refusal.Refusal.the-variants.{Short, NotAction, NotVersion, UnicastLength, Encoding, NoRoom, Inconsistent, TooLong, SentBeforeHandOver}
+use Rattle.wire.specs.declared.refusal.Refusal.the-variants.{Short, NotAction, NotVersion, UnicastLength, Encoding, NoRoom, Inconsistent, TooLong, SentBeforeHandOver, ChannelCount}
 
 abbrev pub numberOf : Refusal → ℕ
 numberOf Short = 1
@@ -13,3 +13,4 @@ numberOf NoRoom = 6
 numberOf Inconsistent = 7
 numberOf TooLong = 8
 numberOf SentBeforeHandOver = 9
+numberOf ChannelCount = 10

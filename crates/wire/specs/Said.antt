@@ -30,6 +30,11 @@ abbrev pub saidPlace : Place → Answer ℕ
 saidPlace (Place.At next) = answer next
 saidPlace (Place.Refused why) = refusal why
 
+-- what a place, or why there is none, and the record beside it say together
+abbrev pub saidBeside : {A : Type 0} → Place → A → Reading A
+saidBeside (Place.At next) a = read a next
+saidBeside (Place.Refused why) a = refused why
+
 abbrev pub saidSize : Size → Answer ℕ
 saidSize (Size.Bytes n) = answer n
 saidSize (Size.Refused why) = refusal why

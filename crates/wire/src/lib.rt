@@ -16,6 +16,7 @@ pub use read::address_at;
 pub use read::field_at;
 pub use read::u8_at;
 pub use read::u16_at;
+pub use read::u16_of;
 pub use read::u32_at;
 pub use refusal::Refusal;
 pub use write::Size;

@@ -1,5 +1,5 @@
 ghost use mathlib.Core.Path.{_≡_};
-ghost use Prim.Native.Nat.{_+_, _*_, _-_, _<_};
+ghost use Prim.Native.Nat.{_+_, _*_, _-_};
 ghost use Rattle.wire.specs.Numbers.{number};
 ghost use Rattle.wire.specs.Addresses.{address};
 ghost use Rattle.wire.specs.Said.{saidU8, saidU16, saidU32, saidAddress, saidPlace};
@@ -53,12 +53,11 @@ pub fn u8_at(s: &[u8], at: usize) -> ReadU8
     ReadU8::Read(s[at], at + 1)
 }
 
-// The number that two bytes write. The bound spares each caller a proof that its sums fit.
-fn pair(low: u8, high: u8) -> u32
+// The number that two bytes write, the lower one first.
+pub fn u16_of(low: u8, high: u8) -> u16
     ensures { λ r. ⌜ r ≡ low + 256 * high ⌝ }
-    ensures { λ r. ⌜ r < 65536 ⌝ }
 {
-    low as u32 + 256 * high as u32
+    low as u16 + 256 * high as u16
 }
 
 pub fn u16_at(s: &[u8], at: usize) -> ReadU16
@@ -67,7 +66,7 @@ pub fn u16_at(s: &[u8], at: usize) -> ReadU16
     if left(s.len(), at) < 2 {
         return ReadU16::Refused(Refusal::Short);
     }
-    ReadU16::Read(pair(s[at], s[at + 1]) as u16, at + 2)
+    ReadU16::Read(u16_of(s[at], s[at + 1]), at + 2)
 }
 
 pub fn u32_at(s: &[u8], at: usize) -> ReadU32
@@ -76,9 +75,9 @@ pub fn u32_at(s: &[u8], at: usize) -> ReadU32
     if left(s.len(), at) < 4 {
         return ReadU32::Refused(Refusal::Short);
     }
-    let low = pair(s[at], s[at + 1]);
-    let high = pair(s[at + 2], s[at + 3]);
-    ReadU32::Read(low + 65536 * high, at + 4)
+    let low = u16_of(s[at], s[at + 1]);
+    let high = u16_of(s[at + 2], s[at + 3]);
+    ReadU32::Read(low as u32 + 65536 * high as u32, at + 4)
 }
 
 // The place behind n bytes. It finds the shortage for a caller that takes the bytes as a part.

@@ -21,6 +21,8 @@ pub enum Refusal {
     TooLong,
     // A sending stamp is below the hand-over stamp.
     SentBeforeHandOver,
+    // The count in front of a channel sequence is not that of sixteen entries.
+    ChannelCount,
 }
 
 impl Refusal {
@@ -38,6 +40,7 @@ impl Refusal {
             Refusal::Inconsistent => 7,
             Refusal::TooLong => 8,
             Refusal::SentBeforeHandOver => 9,
+            Refusal::ChannelCount => 10,
         }
     }
 }

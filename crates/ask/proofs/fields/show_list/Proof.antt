@@ -8,10 +8,10 @@ use lib.ListN.{length}
 use mathlib.Core.Path.{_≡_}
 
 abbrev Inv-loop : tie.InvT-loop
-Inv-loop out₀ at list v behind₀ from₀ i₀ out behind from i = (i ≤ 32) × (length out ≡ length out₀)
+Inv-loop out₀ at list v bytes behind₀ from₀ i₀ out behind from i = (i ≤ 32) × (length out ≡ length out₀)
 
 abbrev μ-loop : tie.MeasureT-loop
-μ-loop out₀ at list v behind₀ from₀ i₀ out behind from i = 32 - i
+μ-loop out₀ at list v bytes behind₀ from₀ i₀ out behind from i = 32 - i
 
 loop-holds : tie.Need-loop-holds Inv-loop μ-loop
 loop-holds c = search needs

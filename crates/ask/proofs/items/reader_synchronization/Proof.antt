@@ -21,5 +21,4 @@ unfolding code.routine
 reader-synchronization-spec 𝓤 H 𝓜 𝓖 𝓡 =
     through-spec (λ κs. R.the-row) R′.mir (λ κs tail at r. r ≡ synchronizationFound (nextSynchronization (now tail) at)) 𝓤 H 𝓜 𝓖 𝓡 code.env key.name callee.name
     (λ κs r u is. laws.lawful R.the-type R′.the-laws 𝓤 H (𝓖 .A) (givenOf 𝓤 H 𝓜 𝓖) .typed r (u ∷ []) is .0)
-    (code.unfolded 𝓤 H 𝓜 𝓡) code.calls-tlvs·read-tlvs·ReadTLVs·new code.calls-tlvs·read-tlvs·ReadTLVs·go-on
-    callee.routine code.calls-tlvs·read-tlvs·ReadTLVs·first-synchronization (known.met 𝓤 H 𝓜 𝓖 𝓡)
+    (code.unfolded 𝓤 H 𝓜 𝓡) code.calls-tlvs·read-tlvs·ReadTLVs·new code.calls-tlvs·read-tlvs·ReadTLVs·go-on callee.routine code.calls-tlvs·read-tlvs·ReadTLVs·first-synchronization (known.met 𝓤 H 𝓜 𝓖 𝓡)

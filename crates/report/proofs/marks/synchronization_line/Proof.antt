@@ -3,7 +3,7 @@
 use Rattle.report.proofs.marks.synchronization_line.Statement.{statement}
 use Rattle.report.proofs.marks.synchronization_line.Tie as tie
 use Rattle.synchronization_parameters.specs.SynchronizationReader.{synchronization}
-use Rattle.tlvs.proofs.Beside.{read-beside}
+use Rattle.synchronization_parameters.proofs.Beside.{synchronization-beside}
 use borrow.Author.Needs.{needs}
 
 read-requires : tie.Need-read-requires
@@ -41,7 +41,7 @@ same-length c = search needs
 
 returns : tie.Need-returns
 returns c =
-    let said = read-beside (synchronization (c .before .before .before .before .before .before .before .before .before .before .before .before .args .value .now) 0) (c .before .before .before .before .before .before .before .before .before .read .ensures) (c .before .before .before .before .before .before .enum-told .given .1) in
+    let said = synchronization-beside (synchronization (c .before .before .before .before .before .before .before .before .before .before .before .before .args .value .now) 0) (c .before .before .before .before .before .before .before .before .before .read .ensures) (c .before .before .before .before .before .before .enum-told .given .1) in
     rw said (rw (c .before .before .before .before .before .of-u16 .ensures) at (c .before .before .one-number .ensures))
 
 same-length-2 : tie.Need-same-length-2
@@ -49,7 +49,7 @@ same-length-2 c = search needs
 
 returns-2 : tie.Need-returns-2
 returns-2 c =
-    let said = read-beside (synchronization (c .before .before .before .before .before .before .before .before .before .before .before .before .before .before .args .value .now) 0) (c .before .before .before .before .before .before .before .before .before .before .before .read .ensures) (c .before .before .before .before .before .before .before .before .answer .given .1) in
+    let said = synchronization-beside (synchronization (c .before .before .before .before .before .before .before .before .before .before .before .before .before .before .args .value .now) 0) (c .before .before .before .before .before .before .before .before .before .before .before .read .ensures) (c .before .before .before .before .before .before .before .before .answer .given .1) in
     rw said (rw (c .before .before .before .before .before .of-u8 .ensures, c .before .before .before .before .before .before .number .ensures) at (c .before .before .one-number2 .ensures))
 
 pub synchronization-line-spec : {M : Type 1} → statement M

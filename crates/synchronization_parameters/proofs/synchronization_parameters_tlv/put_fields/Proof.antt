@@ -2,12 +2,12 @@
 -- Assumes nothing.
 use Rattle.synchronization_parameters.proofs.synchronization_parameters_tlv.put_fields.Statement.{statement}
 use Rattle.synchronization_parameters.proofs.synchronization_parameters_tlv.put_fields.Tie as tie
-use Rattle.synchronization_parameters.specs.SynchronizationBytes.{bytesOf}
+use Rattle.synchronization_parameters.specs.SynchronizationBytes.{fixedBytes}
 use Rattle.wire.proofs.Stores.{_also_, put-length}
 use borrow.Author.Needs.{needs}
 
 returns : tie.Need-returns
-unfolding bytesOf
+unfolding fixedBytes
 returns c =
     let c19 = c .before .before in
     let c18 = c19 .before .before .before .before in let c17 = c18 .before .before .before .before in let c16 = c17 .before .before .before .before in

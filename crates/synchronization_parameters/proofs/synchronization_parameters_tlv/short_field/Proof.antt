@@ -1,17 +1,16 @@
 -- `short_field` meets its contract: what is left of the widths decides, a width that does not fit settles it, and in a value that is too short there is one.
 -- Assumes nothing.
 use Prim.Native.Nat.{_+_, _-_, _<_}
-use Rattle.synchronization_parameters.proofs.Whole.{widths, synchronization-fixed, short, field-left}
+use Rattle.synchronization_parameters.proofs.Whole.{widths, field-refused, field-left}
 use Rattle.synchronization_parameters.proofs.synchronization_parameters_tlv.short_field.Statement.{statement}
 use Rattle.synchronization_parameters.proofs.synchronization_parameters_tlv.short_field.Tie as tie
 use Rattle.wire.proofs.Fixed.{past, past-step}
 use Rattle.wire.proofs.Once.{told}
-use Rattle.wire.specs.Answer.{refusal, placeOf}
+use Rattle.wire.specs.Answer.{refusal}
 use Rattle.wire.specs.Said.{saidPlace}
-use Rattle.wire.specs.declared.refusal.Refusal.the-variants.{Short}
 use borrow.Author.Needs.{needs}
 use lib.ListN.{drop}
-use mathlib.Core.Path.{_≡_, refl, sym, ap, _∙_}
+use mathlib.Core.Path.{_≡_, refl, _∙_}
 use native.Mathlib.Omega.{arith}
 
 abbrev Inv-loop : tie.InvT-loop
@@ -40,11 +39,10 @@ returns c =
     let start = call .before .before .before in
     let s = start .args .s .now in
     let loop = call .before .loop in
-    let none = short s (start .pre) in
+    let why = c .before .why .given .0 .0 in
     let refused = told saidPlace (call .field-at .ensures) (c .before .why .given .1) in
-    let place : refusal Short ≡ refusal (c .before .why .given .0 .0) =
-    sym (ap placeOf none) ∙ synchronization-fixed .place s 0 ∙ loop .inv .1 ∙ past-step widths s (loop .at) (loop .i) (loop .inv .0) ∙ rw refused in
-    cc
+    let place : past widths s 0 ≡ refusal why = loop .inv .1 ∙ past-step widths s (loop .at) (loop .i) (loop .inv .0) ∙ rw refused in
+    field-refused s why place
 
 pub short-field-spec : {M : Type 1} → statement M
 short-field-spec =

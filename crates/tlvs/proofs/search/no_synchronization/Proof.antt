@@ -5,15 +5,9 @@ use Rattle.tlvs.proofs.search.no_synchronization.Statement.{statement}
 use Rattle.tlvs.proofs.search.no_synchronization.Tie as tie
 use borrow.Author.Needs.{needs}
 
-slice-aggregate-read : tie.Need-slice-aggregate-read
-slice-aggregate-read c = search needs
-
-read-requires : tie.Need-read-requires
-read-requires c κs = search needs
-
 returns : tie.Need-returns
 unfolding synchronization
 returns c = rw (c .before .read .ensures)
 
 pub no-synchronization-spec : {M : Type 1} → statement M
-no-synchronization-spec = tie.close (tie.spec slice-aggregate-read read-requires returns)
+no-synchronization-spec = tie.close (tie.spec (search needs) (search needs) returns)

@@ -14,20 +14,17 @@ returns c =
     let a = c .before .before .before .args in
     number-short 1 (a .s .now) (a .at) (omega arith)
 
-shared-slice-read-pair : tie.Need-shared-slice-read-pair
-shared-slice-read-pair c = search needs
+shared-slice-read-u16-of : tie.Need-shared-slice-read-u16-of
+shared-slice-read-u16-of c = search needs
 
-add-pair : tie.Need-add-pair
-add-pair c = search needs
+add-u16-of : tie.Need-add-u16-of
+add-u16-of c = search needs
 
-shared-slice-read-pair-2 : tie.Need-shared-slice-read-pair-2
-shared-slice-read-pair-2 c = search needs
+shared-slice-read-u16-of-2 : tie.Need-shared-slice-read-u16-of-2
+shared-slice-read-u16-of-2 c = search needs
 
-pair-requires : tie.Need-pair-requires
-pair-requires c κs = search needs
-
-cast-t12 : tie.Need-cast-t12
-cast-t12 c = search needs
+u16-of-requires : tie.Need-u16-of-requires
+u16-of-requires c κs = search needs
 
 add-t4 : tie.Need-add-t4
 add-t4 c = search needs
@@ -35,7 +32,7 @@ add-t4 c = search needs
 returns-2 : tie.Need-returns-2
 returns-2 c =
     let a = c .before .before .before .before .before .before .args in
-    let low = c .pair .ensures in
+    let low = c .u16-of .ensures in
     number-whole 1 (a .s .now) (a .at) _ (omega arith) (omega arith)
 
 pub u16-at-spec : {M : Type 1} → statement M
@@ -44,10 +41,9 @@ u16-at-spec =
     (tie.spec
     left-requires
     returns
-    shared-slice-read-pair
-    add-pair
-    shared-slice-read-pair-2
-    pair-requires
-    cast-t12
+    shared-slice-read-u16-of
+    add-u16-of
+    shared-slice-read-u16-of-2
+    u16-of-requires
     add-t4
     returns-2)

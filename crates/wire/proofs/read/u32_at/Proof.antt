@@ -14,38 +14,44 @@ returns c =
     let a = c .before .before .before .args in
     number-short 3 (a .s .now) (a .at) (omega arith)
 
-shared-slice-read-pair : tie.Need-shared-slice-read-pair
-shared-slice-read-pair c = search needs
+shared-slice-read-u16-of : tie.Need-shared-slice-read-u16-of
+shared-slice-read-u16-of c = search needs
 
-add-pair : tie.Need-add-pair
-add-pair c = search needs
+add-u16-of : tie.Need-add-u16-of
+add-u16-of c = search needs
 
-shared-slice-read-pair-2 : tie.Need-shared-slice-read-pair-2
-shared-slice-read-pair-2 c = search needs
+shared-slice-read-u16-of-2 : tie.Need-shared-slice-read-u16-of-2
+shared-slice-read-u16-of-2 c = search needs
 
-pair-requires : tie.Need-pair-requires
-pair-requires c κs = search needs
+u16-of-requires : tie.Need-u16-of-requires
+u16-of-requires c κs = search needs
 
-add-pair-2 : tie.Need-add-pair-2
-add-pair-2 c = search needs
+add-u16-of-2 : tie.Need-add-u16-of-2
+add-u16-of-2 c = search needs
 
-shared-slice-read-pair-3 : tie.Need-shared-slice-read-pair-3
-shared-slice-read-pair-3 c = search needs
+shared-slice-read-u16-of-3 : tie.Need-shared-slice-read-u16-of-3
+shared-slice-read-u16-of-3 c = search needs
 
-add-pair-3 : tie.Need-add-pair-3
-add-pair-3 c = search needs
+add-u16-of-3 : tie.Need-add-u16-of-3
+add-u16-of-3 c = search needs
 
-shared-slice-read-pair-4 : tie.Need-shared-slice-read-pair-4
-shared-slice-read-pair-4 c = search needs
+shared-slice-read-u16-of-4 : tie.Need-shared-slice-read-u16-of-4
+shared-slice-read-u16-of-4 c = search needs
 
-pair-requires-2 : tie.Need-pair-requires-2
-pair-requires-2 c κs = search needs
+u16-of-requires-2 : tie.Need-u16-of-requires-2
+u16-of-requires-2 c κs = search needs
 
-mul-t15 : tie.Need-mul-t15
-mul-t15 c = search needs
+cast-t15 : tie.Need-cast-t15
+cast-t15 c = search needs
 
-add-t16 : tie.Need-add-t16
-add-t16 c = search needs
+cast-t16 : tie.Need-cast-t16
+cast-t16 c = search needs
+
+mul-t17 : tie.Need-mul-t17
+mul-t17 c = search needs
+
+add-t18 : tie.Need-add-t18
+add-t18 c = search needs
 
 add-t6 : tie.Need-add-t6
 add-t6 c = search needs
@@ -53,8 +59,8 @@ add-t6 c = search needs
 returns-2 : tie.Need-returns-2
 returns-2 c =
     let a = c .before .before .before .before .before .before .before .before .before .args in
-    let low = c .before .before .before .pair .ensures in
-    let high = c .pair2 .ensures in
+    let low = c .before .before .before .u16-of .ensures in
+    let high = c .u16-of2 .ensures in
     number-whole 3 (a .s .now) (a .at) _ (omega arith) (omega arith)
 
 pub u32-at-spec : {M : Type 1} → statement M
@@ -63,16 +69,18 @@ u32-at-spec =
     (tie.spec
     left-requires
     returns
-    shared-slice-read-pair
-    add-pair
-    shared-slice-read-pair-2
-    pair-requires
-    add-pair-2
-    shared-slice-read-pair-3
-    add-pair-3
-    shared-slice-read-pair-4
-    pair-requires-2
-    mul-t15
-    add-t16
+    shared-slice-read-u16-of
+    add-u16-of
+    shared-slice-read-u16-of-2
+    u16-of-requires
+    add-u16-of-2
+    shared-slice-read-u16-of-3
+    add-u16-of-3
+    shared-slice-read-u16-of-4
+    u16-of-requires-2
+    cast-t15
+    cast-t16
+    mul-t17
+    add-t18
     add-t6
     returns-2)

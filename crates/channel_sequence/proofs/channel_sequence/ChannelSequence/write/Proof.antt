@@ -4,25 +4,17 @@ use Prim.Native.Nat.{_≤_}
 use Rattle.channel_sequence.proofs.Entries.{sequence-sized, size-most, wire-bytes, size-length}
 use Rattle.channel_sequence.proofs.channel_sequence.ChannelSequence.write.Statement.{statement}
 use Rattle.channel_sequence.proofs.channel_sequence.ChannelSequence.write.Tie as tie
-use Rattle.channel_sequence.specs.Sequences.{sizeOf, bytesOf}
-use Rattle.wire.proofs.Bytes.{within-room}
-use Rattle.wire.proofs.Stores.{wrote-all, wrote-none}
-use Rattle.wire.specs.Answer.{answer}
-use Rattle.wire.specs.Said.{saidSize}
+use Rattle.channel_sequence.specs.Sequences.{sizeOf}
+use Rattle.wire.proofs.Stores.{RoomFor, room-for, wrote-all, wrote-refused}
 use borrow.Author.Needs.{needs}
 use lib.ListN.{length}
 use lib.Seq.{length-take-le}
-use mathlib.Core.Path.{_≡_, sym, ap, _∙_}
+use mathlib.Core.Path.{_≡_, sym}
 use native.Mathlib.Omega.{arith}
 
 -- where a size was given, it is the sequence's, the buffer has room for it, and the sequence has the bytes
-settled : (c : tie.After-known-told) →
-    let a = c .before .before .before .before .before .before .before .args in
-    let n = c .before .n .given .0 .0 in
-    (sizeOf (a .self) ≡ answer n) × (n ≤ length (a .buf .now))
-settled c =
-    let said = ap saidSize (sym (c .before .n .given .1)) ∙ c .before .before .before .within .ensures in
-    within-room _ _ (rw (c .before .before .before .before .size .ensures) at said)
+settled : (c : tie.After-known-told) → let a = c .before .before .before .before .before .before .before .args in RoomFor (sizeOf (a .self)) (c .before .n .given .0 .0) (length (a .buf .now))
+settled c = room-for (c .before .before .before .before .size .ensures) (c .before .before .before .within .ensures) (c .before .n .given .1)
 
 whole : (c : tie.After-known-told) → c .before .n .given .0 .0 ≤ length (c .before .before .before .before .before .before .before .args .self .bytes)
 whole c =
@@ -63,10 +55,8 @@ returns c =
 
 returns-2 : tie.Need-returns-2
 returns-2 c =
-    let a = c .before .before .before .before .before .before .before .args in
-    let said = ap saidSize (sym (c .before .why .given .1)) ∙ c .before .before .before .within .ensures in
-    let same = size-length (a .self) (search needs) in
-    wrote-none (a .buf .now) (bytesOf (a .self)) (rw (c .before .before .before .before .size .ensures, ← same) at said)
+    let self = c .before .before .before .before .before .before .before .args .self in
+    wrote-refused _ _ (size-length self (search needs)) (c .before .before .before .before .size .ensures) (c .before .before .before .within .ensures) (c .before .why .given .1)
 
 pub write-spec : {M : Type 1} → statement M
 write-spec =

@@ -1,27 +1,18 @@
 -- `DataPathStateTLV::write` meets its contract: what is put is the record laid down, after the size and the room were settled.
 -- Assumes nothing.
-use Prim.Native.Nat.{_≤_}
 use Rattle.data_path_state.proofs.Sizes.{record-sized, size-length}
 use Rattle.data_path_state.proofs.data_path_state_tlv.DataPathStateTLV.write.Statement.{statement}
 use Rattle.data_path_state.proofs.data_path_state_tlv.DataPathStateTLV.write.Tie as tie
-use Rattle.data_path_state.specs.Bytes.{bytesOf, sizeOf}
-use Rattle.wire.proofs.Bytes.{within-room}
-use Rattle.wire.proofs.Once.{told}
-use Rattle.wire.proofs.Stores.{wrote-all, wrote-none}
-use Rattle.wire.specs.Answer.{answer}
-use Rattle.wire.specs.Said.{saidSize}
+use Rattle.data_path_state.specs.Bytes.{sizeOf}
+use Rattle.wire.proofs.Stores.{RoomFor, room-for, wrote-all, wrote-refused}
 use borrow.Author.Needs.{needs}
 use lib.ListN.{length}
-use mathlib.Core.Path.{_≡_, sym}
+use mathlib.Core.Path.{sym}
 use native.Mathlib.Omega.{arith}
 
 -- where a size was given, it is the record's, and the buffer has room for it
-settled : (c : tie.After-known-told) →
-    let n = c .before .n .given .0 .0 in
-    (sizeOf (c .before .before .before .before .before .before .args .self) ≡ answer n) × (n ≤ length (c .before .before .before .before .before .before .args .buf .now))
-settled c =
-    let said = sym (told saidSize (c .before .before .before .within .ensures) (c .before .n .given .1)) in
-    within-room _ _ (rw (c .before .before .before .before .size .ensures) at said)
+settled : (c : tie.After-known-told) → let a = c .before .before .before .before .before .before .args in RoomFor (sizeOf (a .self)) (c .before .n .given .0 .0) (length (a .buf .now))
+settled c = room-for (c .before .before .before .before .size .ensures) (c .before .before .before .within .ensures) (c .before .n .given .1)
 
 size-requires : tie.Need-size-requires
 size-requires c κs = search needs
@@ -48,10 +39,7 @@ returns c =
     rw (w .right) (wrote-all (c .before .before .put-record .ensures (omega (arith, room .1, w .size))) (sym (w .size)) (room .1))
 
 returns-2 : tie.Need-returns-2
-returns-2 c =
-    let a = c .before .before .before .before .before .before .args in
-    let said = sym (told saidSize (c .before .before .before .within .ensures) (c .before .why .given .1)) in
-    wrote-none (a .buf .now) (bytesOf (a .self)) (rw (c .before .before .before .before .size .ensures, ← size-length (a .self)) at said)
+returns-2 c = wrote-refused _ _ (size-length (c .before .before .before .before .before .before .args .self)) (c .before .before .before .before .size .ensures) (c .before .before .before .within .ensures) (c .before .why .given .1)
 
 pub write-spec : {M : Type 1} → statement M
 write-spec =

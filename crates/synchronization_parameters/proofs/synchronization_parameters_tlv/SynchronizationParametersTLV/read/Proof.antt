@@ -1,16 +1,31 @@
--- `SynchronizationParametersTLV::read` meets its contract: where 33 bytes stand, the fields are read, and a shorter value is refused for the field that does not fit.
+-- `SynchronizationParametersTLV::read` meets its contract: where 33 bytes stand, the sequence decides, and a shorter value is refused for the field that does not fit.
 -- Assumes nothing.
+use Rattle.channel_sequence.proofs.Beside.{channel-sequence-beside}
+use Rattle.channel_sequence.specs.SequenceTLVReader.{channelSequence}
+use Rattle.synchronization_parameters.proofs.Whole.{all-fields}
 use Rattle.synchronization_parameters.proofs.synchronization_parameters_tlv.SynchronizationParametersTLV.read.Statement.{statement}
 use Rattle.synchronization_parameters.proofs.synchronization_parameters_tlv.SynchronizationParametersTLV.read.Tie as tie
-use Rattle.synchronization_parameters.specs.Said.{synchronizationRead}
 use borrow.Author.Needs.{needs}
-use mathlib.Core.Path.{_≡_, sym, ap}
+use native.Mathlib.Omega.{arith}
 
 returns : tie.Need-returns
-returns c = rw (c .before .short-field .ensures, c .no-parameters .ensures)
+returns c = rw (c .before .short-field .ensures) (c .refused .ensures)
+
+read-fields-requires : tie.Need-read-fields-requires
+read-fields-requires c κs =
+    let s = c .before .before .before .before .before .before .before .args .s .now in
+    (omega arith, channel-sequence-beside (channelSequence s 33) (c .before .before .before .before .read .ensures) (c .before .answer .given .1))
 
 returns-2 : tie.Need-returns-2
-returns-2 c = sym (ap synchronizationRead (c .fields .ensures))
+returns-2 c = c .read-fields .ensures
+
+returns-3 : tie.Need-returns-3
+returns-3 c =
+    let s = c .before .before .before .before .before .before .before .before .args .s .now in
+    let said = channel-sequence-beside (channelSequence s 33) (c .before .before .before .before .before .read .ensures) (c .before .before .answer2 .given .1) in
+    rw (all-fields s (omega arith), said) (c .refused2 .ensures)
 
 pub read-spec : {M : Type 1} → statement M
-read-spec = tie.close (tie.spec (search needs) (search needs) returns (search needs) returns-2)
+read-spec =
+    tie.close
+    (tie.spec (search needs) (search needs) returns (search needs) (search needs) read-fields-requires (search needs) (search needs) returns-2 returns-3)

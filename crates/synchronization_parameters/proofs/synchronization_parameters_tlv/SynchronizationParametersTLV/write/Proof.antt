@@ -1,37 +1,52 @@
--- `SynchronizationParametersTLV::write` meets its contract: the room is settled first, and then the fields are put.
+-- `SynchronizationParametersTLV::write` meets its contract: the size and the room are settled first, and then the fields and the sequence are put.
 -- Assumes nothing.
-use Prim.Native.Nat.{_≤_}
+use Rattle.synchronization_parameters.proofs.Sizes.{SynchronizationSized, synchronization-sized, size-length}
 use Rattle.synchronization_parameters.proofs.synchronization_parameters_tlv.SynchronizationParametersTLV.write.Statement.{statement}
 use Rattle.synchronization_parameters.proofs.synchronization_parameters_tlv.SynchronizationParametersTLV.write.Tie as tie
-use Rattle.synchronization_parameters.specs.SynchronizationBytes.{bytesOf}
-use Rattle.wire.proofs.Bytes.{known-room}
-use Rattle.wire.proofs.Stores.{wrote-all, wrote-none}
-use Rattle.wire.specs.Answer.{answer}
-use Rattle.wire.specs.Said.{saidSize}
+use Rattle.synchronization_parameters.specs.SynchronizationBytes.{sizeOf, bytesOf}
+use Rattle.wire.proofs.Stores.{_and-then_, RoomFor, room-for, wrote-sized, wrote-refused}
 use borrow.Author.Needs.{needs}
 use lib.ListN.{length}
-use mathlib.Core.Path.{_≡_, sym, ap, _∙_}
+use mathlib.Core.Path.{_≡_, _∙_}
 use native.Mathlib.Omega.{arith}
 
--- a size that was given is 33, and the buffer has room for it
-settled : (c : tie.After-known-told) →
-    let n = c .before .n .given .0 .0 in
-    (33 ≡ n) × (n ≤ length (c .before .before .before .before .before .args .buf .now))
-settled c = known-room _ _ (ap saidSize (sym (c .before .n .given .1)) ∙ c .before .before .before .within .ensures)
+-- where a size was given, it is the record's, and the buffer has room for it
+settled : (c : tie.After-known-told) → let a = c .before .before .before .before .before .before .args in RoomFor (sizeOf (a .self)) (c .before .n .given .0 .0) (length (a .buf .now))
+settled c = room-for (c .before .before .before .before .size .ensures) (c .before .before .before .within .ensures) (c .before .n .given .1)
+
+sized : (c : tie.After-known-told) → SynchronizationSized (c .before .before .before .before .before .before .args .self) (c .before .n .given .0 .0)
+sized c = synchronization-sized _ (settled c .0)
+
+put-fields-requires : tie.Need-put-fields-requires
+put-fields-requires c κs = omega (arith, settled (c .before), sized (c .before))
+
+sub-put-channels : tie.Need-sub-put-channels
+sub-put-channels c = omega (arith, sized (c .before .before .before .before .before))
+
+sub-put-channels-2 : tie.Need-sub-put-channels-2
+sub-put-channels-2 c = omega (arith, sized (c .before .before .before .before .before))
+
+put-channels-requires : tie.Need-put-channels-requires
+put-channels-requires c κs = omega (arith, sized (c .before .before .before .before .before))
+
+-- the array of the sequence has 32 bytes
+whole : (c : tie.Start) → length (c .args .self .«channel_sequence» .«channel_sequence» .bytes) ≡ 32
+whole c = search needs
 
 returns : tie.Need-returns
-unfolding bytesOf
 returns c =
-    let room = settled (c .before .before .before .before) in
-    wrote-all (c .before .before .put-fields .ensures) (room .0) (room .1)
+    let told = c .before .before .before .before .before .before .before .before in
+    let start = told .before .before .before .before .before .before in
+    let all = (λ room. c .before .before .before .before .before .before .put-fields .ensures) and-then c .before .before .put-channels .ensures in
+    wrote-sized (bytesOf (start .args .self)) (sized told .bytes) (size-length (start .args .self) (whole start) ∙ settled told .0) all (settled told .1)
 
 returns-2 : tie.Need-returns-2
-unfolding bytesOf
 returns-2 c =
-    let a = c .before .before .before .before .before .args in
-    wrote-none (a .buf .now) (answer (bytesOf (a .self))) (ap saidSize (sym (c .before .why .given .1)) ∙ c .before .before .before .within .ensures)
+    let start = c .before .before .before .before .before .before in
+    wrote-refused _ _ (size-length (start .args .self) (whole start)) (c .before .before .before .before .size .ensures) (c .before .before .before .within .ensures) (c .before .why .given .1)
 
 pub write-spec : {M : Type 1} → statement M
 write-spec =
     tie.close
-    (tie.spec (search needs) (search needs) (λ c κs. omega (arith, settled (c .before))) (search needs) (search needs) returns returns-2)
+    (tie.spec (search needs) (search needs) (search needs) put-fields-requires
+    sub-put-channels sub-put-channels-2 put-channels-requires (search needs) (search needs) returns returns-2)

@@ -1,0 +1,17 @@
+-- `next_channel_sequence` meets its contract: what is found from the place that was come to is what is found from the first one, since only items that give nothing were passed.
+-- Assumes nothing.
+use Prim.Native.Nat.{_-_}
+use Rattle.tlvs.proofs.Beside.{Same, channelSequenceAnswers, ends-beside, passes-beside, takes-beside}
+use Rattle.tlvs.proofs.Searches.{step-told, step-less, passes-other}
+use Rattle.tlvs.proofs.search.next_channel_sequence.Statement.{statement}
+use Rattle.tlvs.proofs.search.next_channel_sequence.Tie as tie
+use borrow.Author.Needs.{needs}
+use lib.ListN.{length}
+use mathlib.Core.Path.{refl}
+
+pub next-channel-sequence-spec : {M : Type 1} → statement M
+next-channel-sequence-spec =
+    tie.close
+    (tie.spec (λ tail from at₀ at. Same channelSequenceAnswers tail from at) (λ tail from at₀ at. length tail - at) (λ c. refl)
+    (search needs) (search needs) (search needs) (λ c. search (ends-beside channelSequenceAnswers)) (λ c κs. search step-told) (λ c. search step-less) (λ c. search passes-other)
+    (search needs) (search needs) (search needs) (λ c. search step-less) (λ c. search (passes-beside channelSequenceAnswers)) (λ c. search (takes-beside channelSequenceAnswers)))
