@@ -17,7 +17,7 @@ use Rattle.channel_sequence.specs.declared.channel.ChannelEncoding.{Chan
 use Rattle.channel_sequence.specs.declared.channel.ChannelEncoding.the-variants.{Simple, Legacy, OpClass}
 use Rattle.channel_sequence.specs.declared.channel_sequence.ChannelSequence.{ChannelSequence}
 use Rattle.channel_sequence.specs.Channels.{encodingOf, entrySize}
-use Rattle.channel_sequence.specs.Hops.{channelOf}
+use Rattle.channel_sequence.specs.Hops.{entryChannel}
 use Rattle.channel_sequence.specs.Sequences.{allZero, flagsFit, allFlagsFit, padded, sizeOf, bytesOf, consistentBytes}
 
 -- what stands from a place on begins with the byte there, and with the two there
@@ -57,11 +57,11 @@ no-second : (s : List ℕ) → getD (take 1 s) 1 0 ≡ 0
 no-second [] = refl
 no-second (b ∷ s) = refl
 
-pub single-channel : (encoding : ℕ) (s : List ℕ) (i : ℕ) → channelOf encoding (take 1 (drop i s)) ≡ record { encoding = encoding; first = getD s i 0; second = 0 }
+pub single-channel : (encoding : ℕ) (s : List ℕ) (i : ℕ) → entryChannel encoding (take 1 (drop i s)) ≡ record { encoding = encoding; first = getD s i 0; second = 0 }
 single-channel encoding s i = rw (front 0 (drop i s), start s i, no-second (drop i s))
 
 pub pair-channel : (encoding : ℕ) (s : List ℕ) (i : ℕ)
-    → channelOf encoding (take 2 (drop i s)) ≡ record { encoding = encoding; first = getD s i 0; second = getD s (i + 1) 0 }
+    → entryChannel encoding (take 2 (drop i s)) ≡ record { encoding = encoding; first = getD s i 0; second = getD s (i + 1) 0 }
 pair-channel encoding s i = rw (front 1 (drop i s), start s i, second (drop i s), getD-drop i s 1 0)
 
 -- a turn puts one entry behind what has been passed, and leaves the rest

@@ -27,10 +27,10 @@ onceConsistent =
     only-one saidConsistent (ofAnswer (λ b. cond b Consistency.Yes Consistency.No) Consistency.Refused)
     (elim [ Consistency.Yes ↦ refl | Consistency.No ↦ refl | Consistency.Refused why ↦ refl ])
 
-abbrev entryOf : Hop → Entry
-entryOf (hop channel) = Entry.Channel channel
-entryOf nothing = Entry.Nothing
+abbrev hopEntry : Hop → Entry
+hopEntry (hop channel) = Entry.Channel channel
+hopEntry nothing = Entry.Nothing
 
 pub onceEntry : {m : Answer Hop} {a b : Entry} → saidEntry a ≡ m → saidEntry b ≡ m → a ≡ b
 onceEntry =
-    only-one saidEntry (ofAnswer entryOf Entry.Refused) (elim [ Entry.Channel channel ↦ refl | Entry.Nothing ↦ refl | Entry.Refused why ↦ refl ])
+    only-one saidEntry (ofAnswer hopEntry Entry.Refused) (elim [ Entry.Channel channel ↦ refl | Entry.Nothing ↦ refl | Entry.Refused why ↦ refl ])

@@ -21,7 +21,7 @@ use Rattle.channel_sequence.specs.Widths.{ChannelSequenceInWidth}
 use Rattle.channel_sequence.specs.Rewritten.{rewrittenChannelSequence}
 use Rattle.channel_sequence.proofs.Again as Q
 use Rattle.channel_sequence.proofs.ReadConsistent as Q′
-use Rattle.channel_sequence.proofs.SequenceTLVs.{holding, head-and-entries, round-trip, filled-octets}
+use Rattle.channel_sequence.proofs.SequenceTLVs.{headedBy, head-and-entries, round-trip, filled-octets}
 
 pub read-consistent : (s : List ℕ) (at : ℕ) {c : ChannelSequenceTLV} {next : ℕ} → channelSequence s at ≡ read c next
     → (length (c .«channel_sequence» .bytes) ≡ 32) × (consistent c ≡ answer true)
@@ -60,7 +60,7 @@ module _ (s : List ℕ) (small : (i : ℕ) → getD s i 0 < 256) (at : ℕ) wher
         low _ (getD s (at + 5) 0) four,
         high _ _ four five,
       ) in
-      let written : bytesOf (holding s at (w .held)) ≡ answer (headBytes (holding s at (w .held)) ++ again .0) = rw (again .1) in
+      let written : bytesOf (headedBy s at (w .held)) ≡ answer (headBytes (headedBy s at (w .held)) ++ again .0) = rw (again .1) in
       let here : field 6 s at ≡ read head (at + 6) = field-whole 5 s at (omega (arith, w .inside)) in
       let kept : rewrittenChannelSequence s at ≡ read (head ++ again .0) next = rw (here, again .2) in (
         headBytes c ++ again .0,

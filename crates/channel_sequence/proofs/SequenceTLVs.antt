@@ -59,8 +59,8 @@ head-refused s at {why} e = go (leb (at + 6) (length s)) refl
         rw (← same) (head-short s at (leb-false (at + 6) (length s) q))
 
 -- a record of the bytes at a place, and a sequence
-abbrev pub holding : List ℕ → ℕ → ChannelSequence → ChannelSequenceTLV
-holding s at q =
+abbrev pub headedBy : List ℕ → ℕ → ChannelSequence → ChannelSequenceTLV
+headedBy s at q =
     record {
       «duplicate_count» = getD s (at + 2) 0;
       «step_count» = getD s (at + 3) 0;
@@ -91,7 +91,7 @@ module _ (s : List ℕ) (at : ℕ) (h : at + 6 ≤ length s) where
       rw (count-there, byte-there 1 (lit< tt), byte-there 2 (lit< tt), byte-there 3 (lit< tt), fill-there, wrong)
 
   pub count-right : eqb (getD s at 0) 15 ≡ true
-      → channelSequence s at ≡ onward (sequence (getD s (at + 1) 0) s (at + 6)) (λ q next. read (holding s at q) next)
+      → channelSequence s at ≡ onward (sequence (getD s (at + 1) 0) s (at + 6)) (λ q next. read (headedBy s at q) next)
   unfolding channelSequence
   count-right right =
       rw (count-there, byte-there 1 (lit< tt), byte-there 2 (lit< tt), byte-there 3 (lit< tt), fill-there, right)
@@ -112,14 +112,14 @@ pub record HeadAndEntries (s : List ℕ) (at : ℕ) (c : ChannelSequenceTLV) (ne
   pub count : getD s at 0 ≡ 15
   pub held : ChannelSequence
   pub entries : sequence (getD s (at + 1) 0) s (at + 6) ≡ read held next
-  pub made : holding s at held ≡ c
+  pub made : headedBy s at held ≡ c
 
 pub head-and-entries : (s : List ℕ) (at : ℕ) {c : ChannelSequenceTLV} {next : ℕ} → channelSequence s at ≡ read c next → HeadAndEntries s at c next
 head-and-entries s at {c} {next} e = dite (decLe (at + 6) (length s)) there (λ past. absurd (never (sym (head-short s at (omega arith)) ∙ e)))
   where
     go : at + 6 ≤ length s → (b : Bool) → eqb (getD s at 0) 15 ≡ b → HeadAndEntries s at c next
     go h true right =
-        let w = steps (sequence (getD s (at + 1) 0) s (at + 6)) (λ q next. read (holding s at q) next) (sym (count-right s at h right) ∙ e) in
+        let w = steps (sequence (getD s (at + 1) 0) s (at + 6)) (λ q next. read (headedBy s at q) next) (sym (count-right s at h right) ∙ e) in
         let goes = w .goes in
         let ends : w .mid ≡ next = cc in
         record { inside = h; count = eqb-true (getD s at 0) 15 right; held = w .first; entries = w .begins ∙ ap (read (w .first)) ends; made = cc }

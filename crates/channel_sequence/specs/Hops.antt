@@ -15,8 +15,8 @@ abbrev pub entryBytes : ChannelEncoding → ℕ → List ℕ → List ℕ
 entryBytes encoding n bytes = take (entrySize encoding) (drop (entrySize encoding * n) bytes)
 
 -- a channel from the bytes of its entry; where that is one byte, the second is 0
-abbrev pub channelOf : ℕ → List ℕ → Channel
-channelOf encoding entry = record { encoding = encoding; first = getD entry 0 0; second = getD entry 1 0 }
+abbrev pub entryChannel : ℕ → List ℕ → Channel
+entryChannel encoding entry = record { encoding = encoding; first = getD entry 0 0; second = getD entry 1 0 }
 
 abbrev pub zeroChannel : Channel
 zeroChannel = record { encoding = 0; first = 0; second = 0 }
@@ -29,4 +29,4 @@ pub data Hop : Type 0 where
 abbrev pub hopAt : ChannelSequence → ℕ → Answer Hop
 hopAt q n = do
   encoding ← encodingOf (q .encoding)
-  answer (cond (leb 16 n) nothing (hop (channelOf (q .encoding) (entryBytes encoding n (q .bytes)))))
+  answer (cond (leb 16 n) nothing (hop (entryChannel (q .encoding) (entryBytes encoding n (q .bytes)))))

@@ -10,7 +10,7 @@ ghost use Rattle.channel_sequence.specs.Channels.{entrySize};
 ghost use Rattle.channel_sequence.specs.Sequences.{allZero, allFlagsFit, consistentBytes, consistent, sizeOf, bytesOf};
 ghost use Rattle.channel_sequence.specs.Sequences.{padded, times, entryOf, consistentEntry, fixed};
 ghost use Rattle.channel_sequence.specs.SequenceReader.{sequence, keptEntries, keptBytes};
-ghost use Rattle.channel_sequence.specs.Hops.{entryBytes, channelOf, hopAt};
+ghost use Rattle.channel_sequence.specs.Hops.{entryBytes, entryChannel, hopAt};
 ghost use Rattle.channel_sequence.specs.Said.{saidConsistent, saidEntry, sequenceRead, sequenceFixed};
 use crate::channel::Channel;
 use crate::channel::ChannelEncoding;
@@ -186,7 +186,7 @@ fn not_fixed(why: Refusal) -> FixedSequence
 
 fn entry_in(known: ChannelEncoding, encoding: u8, bytes: &[u8; 32], n: usize) -> Channel
     requires { ⌜ n < 16 ⌝ }
-    ensures { λ r. ⌜ r ≡ channelOf encoding (entryBytes known n (now (bytes .entry))) ⌝ }
+    ensures { λ r. ⌜ r ≡ entryChannel encoding (entryBytes known n (now (bytes .entry))) ⌝ }
 {
     match known {
         ChannelEncoding::Simple => Channel {
@@ -202,7 +202,7 @@ fn entry_in(known: ChannelEncoding, encoding: u8, bytes: &[u8; 32], n: usize) ->
 // An entry of two bytes.
 fn pair_at(encoding: u8, bytes: &[u8; 32], n: usize) -> Channel
     requires { ⌜ n < 16 ⌝ }
-    ensures { λ r. ⌜ r ≡ channelOf encoding (take 2 (drop (2 * n) (now (bytes .entry)))) ⌝ }
+    ensures { λ r. ⌜ r ≡ entryChannel encoding (take 2 (drop (2 * n) (now (bytes .entry)))) ⌝ }
 {
     Channel {
         encoding,

@@ -1,12 +1,11 @@
 -- A record is within its bounds and consistent exactly where bytes are read as it: its own bytes are, and what is read of bytes keeps every bound, field by field.
 -- Assumes nothing.
 use Prim.Native.Nat.{ℕ, _%_, _^_, _<_}
-use native.Mathlib.Nat.{zero-add}
 use native.Mathlib.Omega.{arith}
-use mathlib.Core.Path.{_≡_, ap, _∙_}
+use mathlib.Core.Path.{_≡_}
 use mathlib.Core.Bool.{Bool, true, false, cond}
 use mathlib.Core.Logic.{_↔_}
-use mathlib.Core.List.{List, [], append-nil}
+use mathlib.Core.List.{List}
 use lib.Dec.{eqb, lit<}
 use lib.ListN.{length, getD}
 use Rattle.wire.specs.declared.refusal.Refusal.the-variants.{UnicastLength}
@@ -16,6 +15,7 @@ use Rattle.wire.specs.Numbers.{number, bit}
 use Rattle.wire.specs.Addresses.{addressBytes, zeroAddress}
 use Rattle.wire.specs.Words.{wordBy}
 use Rattle.wire.proofs.Octets.{Octets, octets-none, octets-cons, octets-append, octets-cond, octets-little, gives-field, gives-number, gives-address}
+use Rattle.wire.proofs.ReadsBack.{from-bytes}
 use Rattle.wire.proofs.Gives.{Gives, gives-any, gives-give, gives-refuse, gives-bind, gives-group, gives-when, gives-cond, gives-optional}
 use Rattle.data_path_fields.specs.declared.misc.DataPathChannel.{DataPathChannel}
 use Rattle.data_path_fields.specs.declared.fields.OptionalWord.{OptionalWord}
@@ -171,11 +171,6 @@ read-ranges s small at e = data-path-ranges {s = s} (record { small = small }) .
 
 pub read-exactly : (r : DataPathStateTLV) → (Ranges r × (consistent r ≡ true)) ↔ ReadFromBytes dataPath r
 read-exactly r = (
-  λ p. record {
-    bytes = recordBytes r;
-    small = record-octets r (p .0) .small;
-    size = length (recordBytes r);
-    reads = rw (append-nil (recordBytes r)) at (record-back r (p .0) (p .1) .back [] []) ∙ ap (read r) (zero-add (length (recordBytes r)));
-  },
+  λ p. from-bytes (record-back r (p .0) (p .1)) (record-octets r (p .0) .small),
   λ p. (read-ranges (p .bytes) (p .small) 0 (p .reads), read-consistent (p .bytes) 0 (p .reads)),
 )

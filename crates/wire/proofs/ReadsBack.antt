@@ -14,7 +14,7 @@ use Rattle.wire.specs.declared.read.MACAddress.{MACAddress}
 use Rattle.wire.specs.Reading.{Reader, read, give, field, _>>=_, when}
 use Rattle.wire.specs.FromBytes.{ReadFromBytes}
 use Rattle.wire.specs.Answer.{Answer, answer, asked}
-use Rattle.wire.specs.Numbers.{AllInWidth, none, one, little, littleBytes, number}
+use Rattle.wire.specs.Numbers.{AllInWidth, one, little, littleBytes, number}
 use Rattle.wire.specs.Addresses.{address, addressOf, addressBytes}
 
 -- a reader reads some bytes as a value
@@ -96,10 +96,6 @@ address-back a = made-back addressOf (field-back 6 (addressBytes a) refl)
 pub number-on : {B : Type 0} (width : ℕ) (f : ℕ → Reader B) {v : ℕ} {others : List (ℕ × ℕ)} {bytes : List ℕ} {b : B}
     → (AllInWidth others → Back (f v) bytes b) → AllInWidth ((width, v) ∷ others) → Back (number width >>= f) (littleBytes width v ++ bytes) b
 number-on width f goes (one h rest) = bind-back f (number-back width _ h) (goes rest)
-
--- and the last of them, with which the value is made
-pub number-last : {B : Type 0} (width : ℕ) (g : ℕ → B) {v : ℕ} → AllInWidth ((width, v) ∷ []) → Back (number width >>= λ x. give (g x)) (littleBytes width v) (g v)
-number-last width g (one h none) = made-back g (number-back width _ h)
 
 -- an address always fits
 pub address-on : {B : Type 0} (f : MACAddress → Reader B) (a : MACAddress) {others : List (ℕ × ℕ)} {bytes : List ℕ} {b : B}
