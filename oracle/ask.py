@@ -434,7 +434,6 @@ REFUSALS = one_of({
     "NoRoom": awdl.NO_ROOM,
     "Inconsistent": awdl.INCONSISTENT,
     "TooLong": awdl.TOO_LONG,
-    "SentBeforeHandOver": awdl.SENT_BEFORE_HAND_OVER,
     "ChannelCount": awdl.CHANNEL_COUNT,
 })
 ENTRY_KINDS = one_of({

@@ -1,5 +1,5 @@
-"""One reading of docs/01-scope.md (01), in its order and words, with No. 2 of
-docs/02-change-requests.md (02).
+"""One reading of docs/01-scope.md (01), in its order and words, with No. 1 and
+No. 2 of docs/02-change-requests.md (02).
 
 It is written from these alone; only the names of bits, and the numbers of types
 and subtypes that 01 does not list, are the Rust's. A reader gives its size
@@ -10,7 +10,7 @@ call that is refused raises `Refused` with 01's number.
 from collections import namedtuple
 
 
-# Numbers a call can answer with.
+# Numbers a call can answer with; 9 is no longer given (02, No. 1).
 
 SHORT = 1                   # the input ends before a needed byte
 NOT_ACTION = 2              # first frame byte present and not 0x08
@@ -20,7 +20,6 @@ ENCODING = 5                # channel encoding not 0, 1 or 3
 NO_ROOM = 6                 # the buffer is shorter than the size to write
 INCONSISTENT = 7            # the record is not consistent
 TOO_LONG = 8                # an item value is longer than 65,535 bytes
-SENT_BEFORE_HAND_OVER = 9   # `tx_delta`, the sending stamp below the hand-over stamp
 CHANNEL_COUNT = 10          # the count byte of a channel sequence is not 15 (02)
 
 
@@ -97,9 +96,9 @@ def write_frame(frame, tail, buffer):
 
 
 def tx_delta(phy_tx_time, target_tx_time):
-    if phy_tx_time < target_tx_time:
-        raise Refused(SENT_BEFORE_HAND_OVER)
-    return phy_tx_time - target_tx_time
+    """The gap on a clock that rolls over: sending less hand-over, modulo 2 to
+    the 32nd (02, No. 1)."""
+    return (phy_tx_time - target_tx_time) % 2 ** 32
 
 
 def step(tail, at):
@@ -572,21 +571,14 @@ def dump_start(data):
     return ("too_long",) if len(data) > DUMP_LIMIT else ("frame",)
 
 
-def delta_word(frame):
-    try:
-        return tx_delta(frame.phy_tx_time, frame.target_tx_time)
-    except Refused:
-        return "none"
-
-
 def frame_line(data):
     try:
         frame = read_frame(data)[1]
     except Refused as refusal:
         return f"refused {refusal.number}", ("end",)
-    stamps = f"phy={frame.phy_tx_time} target={frame.target_tx_time}"
-    line = f"frame subtype={frame.subtype} {stamps} delta={delta_word(frame)}"
-    return line, ("item", 0, 0)
+    delta = tx_delta(frame.phy_tx_time, frame.target_tx_time)
+    stamps = f"phy={frame.phy_tx_time} target={frame.target_tx_time} delta={delta}"
+    return f"frame subtype={frame.subtype} {stamps}", ("item", 0, 0)
 
 
 def item_line(data, at, items):

@@ -1,7 +1,8 @@
 """Makes questions for docs/ASK.md: random and damaged frames and values, every
 cut of good ones, channel sequences with wrong counts and encodings, records of
 every presence, buffers short, exact and long, numbers at the limits of their
-fields, bytes in every form, bad questions, and lines around the longest one.
+fields, stamps between which the clock has rolled over, bytes in every form, bad
+questions, and lines around the longest one.
 """
 
 import re
@@ -39,6 +40,30 @@ def number(limit):
         return str(limit + 1)
     word = str(some(limit))
     return word.zfill(R.randrange(19, 22)) if chance(200) else word
+
+
+ROUND = 2 ** 32
+HALF = ROUND // 2
+
+
+def moment():
+    """A few microseconds, often none or one."""
+    return R.choice((0, 1, R.getrandbits(4), R.getrandbits(9), R.getrandbits(17)))
+
+
+def stamps():
+    """A sending and a hand-over stamp. In one pair of three the clock has just
+    rolled over; the others are equal, neighbours, a moment or half the range
+    apart, or any two, the sending the lower or the higher."""
+    if chance(3):
+        return moment(), ROUND - 1 - moment()
+    target = some(ROUND - 1)
+    if chance(4):
+        target = 2 ** R.choice((8, 16, 24, 31)) - R.getrandbits(1)
+    half = HALF + R.choice((-1, 0, 1))
+    other = some(ROUND - 1)
+    gap = R.choice((0, 1, -1, moment(), -moment(), half, other, other))
+    return (target + gap) % ROUND, target
 
 
 RUN = re.compile(rb"(.)\1{3,}", re.S)
@@ -172,8 +197,8 @@ def tail():
 def good_frame():
     """Good as a rule: one of its first two bytes is seldom another."""
     first = bytes([some(255) if chance(40) else 0x08, some(255) if chance(40) else 0x10])
-    stamps = awdl.little(some(300), 4) + awdl.little(some(300), 4)
-    return first + R.randbytes(2) + (stamps if chance(3) else R.randbytes(8)) + good_tail()
+    phy, target = stamps()
+    return first + R.randbytes(2) + awdl.little(phy, 4) + awdl.little(target, 4) + good_tail()
 
 
 def frame():
@@ -386,7 +411,7 @@ LISTED = [
         "unicast_options", "channel_map", "legacy_flags", "flags")),
     *(f"refusal_number {name}" for name in (
         "Short", "NotAction", "NotVersion", "UnicastLength", "Encoding", "NoRoom",
-        "Inconsistent", "TooLong", "SentBeforeHandOver", "ChannelCount", "short", "None")),
+        "Inconsistent", "TooLong", "ChannelCount", "SentBeforeHandOver", "short", "None")),
     *(f"entry_size {kind}" for kind in ("simple", "legacy", "opclass", "Simple")),
 ]
 
@@ -431,8 +456,10 @@ def write_item():
 
 
 def tx_delta():
-    phy = some(2 ** 32 - 1)
-    target = R.choice((phy, max(phy - 1, 0), phy + 1, some(2 ** 32 - 1)))
+    """Seldom one that its field cannot hold, as if the clock went on."""
+    phy, target = stamps()
+    if chance(100):
+        phy += ROUND
     return [f"tx_delta {phy} {target}"]
 
 
@@ -625,7 +652,7 @@ def passed_over():
 
 MAKERS = [
     *[read] * 10, *[step] * 6, *[value] * 2, *[frame_write] * 3, *[write_item] * 2,
-    tx_delta, *[data_path_ask] * 8, *[data_path_write] * 6, *[synchronization_ask] * 2,
+    *[tx_delta] * 3, *[data_path_ask] * 8, *[data_path_write] * 6, *[synchronization_ask] * 2,
     *[synchronization_write] * 3, *[channel_sequence_read] * 3, *[channel_sequence_ask] * 3,
     *[channel_sequence_write] * 3, *[sequence_read] * 2, *[sequence_ask] * 2,
     *[sequence_write] * 2, *[sequence_entry] * 2, *[of_channel] * 2, *[small] * 2,

@@ -1,4 +1,5 @@
 pub mod Once
 pub mod Sizes
+pub mod Gaps
 pub mod RoundTrip
 pub mod Again

@@ -1,12 +1,8 @@
 -- The gap between the two stamps: how long the frame waited in the radio.
-use Prim.Native.Nat.{ℕ, _-_}
-use lib.Dec.{leb}
-use Rattle.wire.specs.declared.refusal.Refusal.the-variants.{SentBeforeHandOver}
-use Rattle.wire.specs.Answer.{Answer, answer, require, _>>_}
+use Prim.Native.Nat.{ℕ, _+_, _-_, _%_, _^_}
 use Rattle.action_frame.specs.declared.PhyTxTime.{PhyTxTime}
 use Rattle.action_frame.specs.declared.TargetTxTime.{TargetTxTime}
 
-abbrev pub delta : PhyTxTime → TargetTxTime → Answer ℕ
-delta phy target = do
-  require (leb (target .0) (phy .0)) SentBeforeHandOver
-  answer (phy .0 - target .0)
+-- the sending stamp less the hand-over stamp, on a clock of 32 bits that rolls over
+abbrev pub delta : PhyTxTime → TargetTxTime → ℕ
+delta phy target = (phy .0 + 2 ^ 32 - target .0) % 2 ^ 32

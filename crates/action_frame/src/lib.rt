@@ -8,7 +8,7 @@ ghost use Rattle.wire.specs.Parts.{partAt};
 ghost use Rattle.wire.specs.Writing.{Put, Wrote};
 ghost use Rattle.action_frame.specs.Frames.{fixedByte, headerOf, fields, header, tailOf, headerBytes, bytesOf};
 ghost use Rattle.action_frame.specs.Stamps.{delta};
-ghost use Rattle.action_frame.specs.Said.{saidFrame, saidDelta};
+ghost use Rattle.action_frame.specs.Said.{saidFrame};
 use wire::Place;
 use wire::ReadU8;
 use wire::ReadU32;
@@ -30,11 +30,6 @@ pub struct AWDLActionFrame {
 // The header with its size, or why there is none.
 pub enum ReadFrame {
     Read(AWDLActionFrame, usize),
-    Refused(Refusal),
-}
-
-pub enum Delta {
-    Micros(u32),
     Refused(Refusal),
 }
 
@@ -97,16 +92,12 @@ impl AWDLActionFrame {
     }
 }
 
-// How long the frame waited between the driver and the air.
-pub fn tx_delta(phy: PhyTxTime, target: TargetTxTime) -> Delta
-    ensures { λ r. ⌜ saidDelta r ≡ delta phy target ⌝ }
+// How long the frame waited between the driver and the air, in microseconds. The clock behind both stamps rolls over after
+// 71.6 minutes, so a frame may be sent at a lower stamp than it was handed over at.
+pub fn tx_delta(phy: PhyTxTime, target: TargetTxTime) -> u32
+    ensures { λ r. ⌜ r ≡ delta phy target ⌝ }
 {
-    let sent = phy.0;
-    let handed_over = target.0;
-    if sent < handed_over {
-        return Delta::Refused(Refusal::SentBeforeHandOver);
-    }
-    Delta::Micros(sent - handed_over)
+    std::num::wrapping_sub_u32(phy.0, target.0)
 }
 
 // The place behind a byte that has to have a value. A missing byte is told from a wrong one.

@@ -12,7 +12,6 @@ use crate::numbers::size_at;
 use crate::output::named_hex;
 use crate::words::first;
 use action_frame::AWDLActionFrame;
-use action_frame::Delta;
 use action_frame::PhyTxTime;
 use action_frame::ReadFrame;
 use action_frame::TargetTxTime;
@@ -45,10 +44,7 @@ fn read(frame: &[u8]) -> Said {
 }
 
 fn tx_delta(phy: u32, target: u32) -> Said {
-    match action_frame::tx_delta(PhyTxTime(phy), TargetTxTime(target)) {
-        Delta::Micros(n) => one(n as u64),
-        Delta::Refused(why) => refused(why),
-    }
+    one(action_frame::tx_delta(PhyTxTime(phy), TargetTxTime(target)) as u64)
 }
 
 fn refusal_of(n: u64) -> Refusal {
@@ -61,7 +57,6 @@ fn refusal_of(n: u64) -> Refusal {
         5 => Refusal::NoRoom,
         6 => Refusal::Inconsistent,
         7 => Refusal::TooLong,
-        8 => Refusal::SentBeforeHandOver,
         _ => Refusal::ChannelCount,
     }
 }

@@ -19,8 +19,8 @@ use Rattle.data_path_state.proofs.Once.{onceDataPath}
 use Rattle.tlv_items.proofs.Once.{onceEnd}
 use Rattle.tlvs.proofs.Once.{onceFoundDataPath}
 use Rattle.action_frame.specs.Frames.{zeroFrame}
-use Rattle.action_frame.specs.Said.{saidFrame, saidDelta}
-use Rattle.action_frame.proofs.Once.{onceFrame, onceDelta}
+use Rattle.action_frame.specs.Said.{saidFrame}
+use Rattle.action_frame.proofs.Once.{onceFrame}
 use Rattle.promises.proofs.Refusing.{number-range, numbers-apart, reader-answers, call-answers, refused-buffer, short-buffer}
 use Rattle.promises.specs.Demand1.{Demand1}
 
@@ -47,7 +47,6 @@ demand1 =
       synchronization = record { refuses = λ why. refl; zero = λ why. refl };
       channel-sequence = λ at. record { refuses = λ why. refl; zero = λ why. refl };
       frame = reader-answers saidFrame zeroFrame 0 (λ a b e. onceFrame e refl);
-      delta = call-answers saidDelta 0 (λ a b e. onceDelta e refl);
       end = λ a b e. onceEnd e refl;
       found = λ a b e. onceFoundDataPath e refl;
       decimal = λ a b e. onceDecimal e refl;

@@ -19,6 +19,7 @@ use Rattle.synchronization_parameters.proofs.Sizes as S″
 use Rattle.tlv_items.proofs.Walks.{gives-walk, gives-walk-once}
 use Rattle.tlvs.proofs.Searches.{gives-all, gives-all-once}
 use Rattle.action_frame.proofs.Again as F
+use Rattle.action_frame.proofs.Gaps.{gap-exactly, gap-same}
 use Rattle.report.proofs.Report.{gives-dump, gives-once}
 use Rattle.promises.specs.Demand2.{Demand2}
 use Rattle.promises.proofs.RoundTrips.{sequence-round, channel-sequence-round, data-path-round, synchronization-round, item-round, frame-round, tail-round}
@@ -39,6 +40,8 @@ demand2 =
       options-mask = kept-options-mask;
       legacy-mask = kept-mask;
       presence = λ k w. sym (has-bit k w refl);
+      gaps = gap-exactly;
+      gaps-same = gap-same;
       sequences-consistent = λ encoding s at e. Q.read-consistent encoding s at e;
       channel-sequences-consistent = λ s at e. C.read-consistent s at e;
       channel-sequences-in-width = λ s b at e. C.read-in-width s b at e;

@@ -44,7 +44,7 @@ use Rattle.tlvs.specs.Said.{saidFoundDataPath, synchronizationFound, channelSeq
 use Rattle.action_frame.specs.Frames as F
 use Rattle.action_frame.specs.Frames.{header, tailOf}
 use Rattle.action_frame.specs.Stamps.{delta}
-use Rattle.action_frame.specs.Said.{saidFrame, saidDelta}
+use Rattle.action_frame.specs.Said.{saidFrame}
 use Rattle.report.specs.Marks.{firstMark, standsAt}
 use Rattle.report.specs.Shown.{Shows}
 use Rattle.wire.proofs as wire
@@ -233,7 +233,7 @@ pub record EveryCall : Type 2 where
   pub frame-write : Call frames.write.Symbol.routine frames.write.ended
       (λ κs a r e. Wrote (now (a .1 .1 .0)) (answer (F.bytesOf (a .0) (now (a .1 .0)))) (saidSize r) (now (e .1 .1 .0)))
   pub tx-delta : Call stamps.tx_delta.Symbol.routine stamps.tx_delta.ended
-      (λ κs a r e. saidDelta r ≡ delta (a .0) (a .1 .0))
+      (λ κs a r e. r ≡ delta (a .0) (a .1 .0))
   -- the report: its first mark, and the line at a mark in the buffer that was lent
   pub report-dump-start : Call report.dump_start.Symbol.routine report.dump_start.ended
       (λ κs a r e. r ≡ firstMark (now (a .0)))

@@ -5,9 +5,10 @@ use native.Mathlib.Omega.{arith}
 use mathlib.Core.Path.{_≡_, refl, sym, ap, _∙_}
 use mathlib.Core.Bool.{false, cond}
 use mathlib.Core.List.{List}
+use mathlib.Core.Logic.{_⊎_, inl, inr}
 use lib.Dec.{eqb}
 use Rattle.wire.specs.declared.refusal.Refusal.{Refusal}
-use Rattle.wire.specs.declared.refusal.Refusal.the-variants.{Short, NotAction, NotVersion, UnicastLength, Encoding, NoRoom, Inconsistent, TooLong, SentBeforeHandOver, ChannelCount}
+use Rattle.wire.specs.declared.refusal.Refusal.the-variants.{Short, NotAction, NotVersion, UnicastLength, Encoding, NoRoom, Inconsistent, TooLong, ChannelCount}
 use Rattle.wire.specs.Refusals.{numberOf}
 use Rattle.wire.specs.Reading.{Reading, refused}
 use Rattle.wire.specs.Answer.{Answer, answer, refusal}
@@ -16,17 +17,16 @@ use Rattle.wire.specs.Writing.{fits, Put, afterwards, Wrote}
 use Rattle.wire.proofs.Once.{only-one}
 use Rattle.promises.specs.Answers.{refusedOutcome, refusedResult, Once, Answering}
 
-pub number-range : (why : Refusal) → (1 ≤ numberOf why) × (numberOf why ≤ 10)
-number-range Short = omega arith
-number-range NotAction = omega arith
-number-range NotVersion = omega arith
-number-range UnicastLength = omega arith
-number-range Encoding = omega arith
-number-range NoRoom = omega arith
-number-range Inconsistent = omega arith
-number-range TooLong = omega arith
-number-range SentBeforeHandOver = omega arith
-number-range ChannelCount = omega arith
+pub number-range : (why : Refusal) → ((1 ≤ numberOf why) × (numberOf why ≤ 8)) ⊎ (numberOf why ≡ 10)
+number-range Short = inl (omega arith)
+number-range NotAction = inl (omega arith)
+number-range NotVersion = inl (omega arith)
+number-range UnicastLength = inl (omega arith)
+number-range Encoding = inl (omega arith)
+number-range NoRoom = inl (omega arith)
+number-range Inconsistent = inl (omega arith)
+number-range TooLong = inl (omega arith)
+number-range ChannelCount = inr refl
 
 -- the refusal that has a number
 abbrev numbered : ℕ → Refusal
@@ -38,8 +38,7 @@ numbered n =
     (cond (eqb n 5) Encoding
     (cond (eqb n 6) NoRoom
     (cond (eqb n 7) Inconsistent
-    (cond (eqb n 8) TooLong
-    (cond (eqb n 9) SentBeforeHandOver ChannelCount))))))))
+    (cond (eqb n 8) TooLong ChannelCount)))))))
 
 pub numbers-apart : (why other : Refusal) → numberOf why ≡ numberOf other → why ≡ other
 numbers-apart why other e = only-one numberOf numbered back e refl
@@ -53,7 +52,6 @@ numbers-apart why other e = only-one numberOf numbered back e refl
     back NoRoom = refl
     back Inconsistent = refl
     back TooLong = refl
-    back SentBeforeHandOver = refl
     back ChannelCount = refl
 
 pub reader-answers : {T A : Type 0} (said : T → Reading A) (nothing : A) (at : ℕ) → Once said

@@ -4,6 +4,7 @@ use Prim.Native.Nat.{ℕ, _≤_}
 use mathlib.Core.Path.{_≡_}
 use mathlib.Core.Bool.{Bool, false}
 use mathlib.Core.List.{List}
+use mathlib.Core.Logic.{_⊎_}
 use Rattle.wire.specs.declared.refusal.Refusal.{Refusal}
 use Rattle.wire.specs.Refusals.{numberOf}
 use Rattle.wire.specs.Reading.{refused}
@@ -32,13 +33,13 @@ use Rattle.synchronization_parameters.specs.Outcomes.{outcomeSynchronization}
 use Rattle.tlv_items.specs.Said.{saidEnd}
 use Rattle.tlvs.specs.Said.{saidFoundDataPath}
 use Rattle.action_frame.specs.Frames.{zeroFrame}
-use Rattle.action_frame.specs.Said.{saidFrame, saidDelta}
-use Rattle.action_frame.specs.Outcomes.{outcomeFrame, resultDelta}
+use Rattle.action_frame.specs.Said.{saidFrame}
+use Rattle.action_frame.specs.Outcomes.{outcomeFrame}
 use Rattle.promises.specs.Answers.{refusedOutcome, refusedResult, Once, Answering, HeldBeside}
 
 pub record Demand1 : Type 0 where
-  -- a refusal's number is one of 1 to 10, and each refusal has its own
-  pub numbers : (why : Refusal) → (1 ≤ numberOf why) × (numberOf why ≤ 10)
+  -- a refusal's number is one of 1 to 8 or 10, and each refusal has its own; 9 is given to none
+  pub numbers : (why : Refusal) → ((1 ≤ numberOf why) × (numberOf why ≤ 8)) ⊎ (numberOf why ≡ 10)
   pub apart : (why other : Refusal) → numberOf why ≡ numberOf other → why ≡ other
   -- a refusal stands for its number, the zero value and size 0, and only one answer meets each statement (where a contract is
   -- an equation of the answer itself, there is nothing to show):
@@ -56,14 +57,13 @@ pub record Demand1 : Type 0 where
   pub entry : Answering saidEntry refusal resultEntry (refusedResult (hop zeroChannel))
   pub sequence : (at : ℕ) → HeldBeside sequenceRead refused (outcomeSequence at) (refusedOutcome zeroSequence) (λ r. r .sequence) zeroSequence
   pub fixed : HeldBeside sequenceFixed refusal resultFixed (refusedResult zeroSequence) (λ r. r .sequence) zeroSequence
-  -- of the three records, the header and the gap between the stamps, and of the two parts in which a data path record is read
+  -- of the three records and the header, and of the two parts in which a data path record is read
   pub head : Answering saidHead refused outcomeHead (refusedOutcome zeroHead)
   pub body : (at : ℕ) → Answering saidBody refused (outcomeBody at) (refusedOutcome zeroBody)
   pub data-path : Answering saidDataPath refused outcomeDataPath (refusedOutcome zeroDataPath)
   pub synchronization : HeldBeside synchronizationRead refused outcomeSynchronization (refusedOutcome zeroSynchronization) (λ r. r .parameters) zeroSynchronization
   pub channel-sequence : (at : ℕ) → HeldBeside channelSequenceRead refused (outcomeChannelSequence at) (refusedOutcome zeroChannelSequence) (λ r. r .channels) zeroChannelSequence
   pub frame : Answering saidFrame refused outcomeFrame (refusedOutcome zeroFrame)
-  pub delta : Answering saidDelta refusal resultDelta (refusedResult 0)
   -- the end report, the search and the reading of a word refuse nothing
   pub end : Once saidEnd
   pub found : Once saidFoundDataPath

@@ -1,6 +1,6 @@
 -- Demand 2: reading and writing are what the definitions say. That each call's answer is the one that its definition gives, on
 -- every input, is `EveryCall` in `proofs/`, since it names the code; this is what is said of the definitions.
-use Prim.Native.Nat.{ℕ, _^_, _≤_, _<_}
+use Prim.Native.Nat.{ℕ, _+_, _-_, _%_, _^_, _≤_, _<_}
 use mathlib.Core.Path.{_≡_}
 use mathlib.Core.Bool.{true}
 use mathlib.Core.List.{List}
@@ -41,6 +41,9 @@ use Rattle.tlv_items.specs.Sent.{AllSendable, Sent, sentIn, tailWith}
 use Rattle.action_frame.specs.declared.AWDLActionFrame.{AWDLActionFrame}
 use Rattle.action_frame.specs.Frames.{header, headerBytes, InWidth}
 use Rattle.action_frame.specs.Rewritten as F
+use Rattle.action_frame.specs.declared.PhyTxTime.{PhyTxTime}
+use Rattle.action_frame.specs.declared.TargetTxTime.{TargetTxTime}
+use Rattle.action_frame.specs.Stamps.{delta}
 use Rattle.report.specs.Lines.{dumpLines}
 use Rattle.report.specs.Marks.{firstMark, GivesLines}
 use Rattle.promises.specs.Formats as formats
@@ -64,6 +67,11 @@ pub record Demand2 : Type 1 where
   pub legacy-mask : (w : ℕ) → keptFlags w ≡ bitAnd w 0x3F
   -- a word has a bit where it has one of the bits of the mask that is that bit alone
   pub presence : (k w : ℕ) → hasAny w (2 ^ k) ≡ bit k w
+  -- a clock of 32 bits goes from the hand-over stamp to the sending stamp in the gap between them, and in no other number of 32 bits;
+  -- where the sending stamp is not the lower one, the gap is their difference
+  pub gaps : (phy : PhyTxTime) (target : TargetTxTime) → phy .0 < 2 ^ 32 → target .0 < 2 ^ 32 → (gap : ℕ)
+      → (gap ≡ delta phy target) ↔ ((gap < 2 ^ 32) × ((target .0 + gap) % 2 ^ 32 ≡ phy .0))
+  pub gaps-same : (phy : PhyTxTime) (target : TargetTxTime) → phy .0 < 2 ^ 32 → target .0 ≤ phy .0 → delta phy target ≡ phy .0 - target .0
   -- what was read is consistent and, of bytes, within its widths, so that it can be written again and read back; a header need
   -- only be within its widths
   pub sequences-consistent : (encoding : ℕ) (s : List ℕ) (at : ℕ) {next : ℕ} {q : ChannelSequence} → sequence encoding s at ≡ read q next

@@ -7,7 +7,6 @@ use lib.ListN.{length}
 use Rattle.wire.specs.declared.refusal.Refusal.{Refusal}
 use Rattle.wire.specs.Refusals.{numberOf}
 use Rattle.wire.specs.Reading.{Reading, read, refused}
-use Rattle.wire.specs.Answer.{Answer, answer, refusal}
 use Rattle.data_path_state.specs.declared.data_path_state_tlv.DataPathStateTLV.{DataPathStateTLV}
 use Rattle.data_path_state.specs.DataPath.{dataPath}
 use Rattle.synchronization_parameters.specs.declared.synchronization_parameters_tlv.SynchronizationParametersTLV.{SynchronizationParametersTLV}
@@ -23,17 +22,12 @@ use Rattle.text.specs.Text.{text, named}
 abbrev pub refusedLine : Refusal → List ℕ
 refusedLine why = named "refused " (numberOf why) ++ text "\n"
 
-abbrev pub deltaWords : Answer ℕ → List ℕ
-deltaWords (answer gap) = named " delta=" gap
-deltaWords (refusal why) = text " delta=none"
+abbrev pub headerFields : AWDLActionFrame → List ℕ
+headerFields f =
+    named "frame subtype=" (f .subtype) ++ named " phy=" (f .«phy_tx_time» .0) ++ named " target=" (f .«target_tx_time» .0)
 
 abbrev pub headerLine : AWDLActionFrame → List ℕ
-headerLine f =
-    named "frame subtype=" (f .subtype)
-    ++ named " phy=" (f .«phy_tx_time» .0)
-    ++ named " target=" (f .«target_tx_time» .0)
-    ++ deltaWords (delta (f .«phy_tx_time») (f .«target_tx_time»))
-    ++ text "\n"
+headerLine f = headerFields f ++ named " delta=" (delta (f .«phy_tx_time») (f .«target_tx_time»)) ++ text "\n"
 
 abbrev pub itemLine : Item → List ℕ
 itemLine it =

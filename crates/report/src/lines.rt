@@ -3,14 +3,12 @@ ghost use Prim.Native.Nat.{_+_, _≤_};
 ghost use mathlib.Core.Path.{_≡_};
 ghost use mathlib.Core.List.{_++_};
 ghost use lib.ListN.{length};
-ghost use Rattle.action_frame.specs.Said.{saidDelta};
 ghost use Rattle.text.specs.Text.{text, decimal, named};
-ghost use Rattle.report.specs.Lines.{deltaWords, headerLine};
+ghost use Rattle.report.specs.Lines.{headerFields, headerLine};
 ghost use Rattle.report.specs.Shown.{PutWithRoom};
 use crate::put::put_named;
 use crate::put::put_text;
 use action_frame::AWDLActionFrame;
-use action_frame::Delta;
 use action_frame::tx_delta;
 
 // Each of these is a cast: a call's contract gives its callers the equation that a cast would have them prove.
@@ -59,27 +57,27 @@ pub(crate) fn two_numbers(out: &mut [u8], first: &[u8], m: u64, second: &[u8], n
     put_text(out, behind_second, b"\n")
 }
 
-fn put_delta(out: &mut [u8], at: usize, d: Delta) -> usize
-    requires { ⌜ at + 27 ≤ length (now out) ⌝ }
-    ensures { λ r. ⌜ PutWithRoom (now (out .entry)) at (deltaWords (saidDelta d)) r (now (out .exit)) ⌝ }
-    ensures { λ r. ⌜ r ≤ at + 27 ⌝ }
+// The line's start: 27 letters and three numbers of at most twenty digits. It stands apart from the gap because the search for a
+// bound looks back over so many steps only, and four numbers in one function take more.
+fn put_header_fields(out: &mut [u8], f: AWDLActionFrame) -> usize
+    requires { ⌜ 128 ≤ length (now out) ⌝ }
+    ensures { λ r. ⌜ PutWithRoom (now (out .entry)) 0 (headerFields f) r (now (out .exit)) ⌝ }
+    ensures { λ r. ⌜ r ≤ 87 ⌝ }
 {
-    match d {
-        Delta::Micros(gap) => put_named(out, at, b" delta=", of_u32(gap)),
-        Delta::Refused(_) => put_text(out, at, b" delta=none"),
-    }
+    let phy = f.phy_tx_time;
+    let target = f.target_tx_time;
+    let behind_subtype = put_named(out, 0, b"frame subtype=", of_u8(f.subtype));
+    let behind_phy = put_named(out, behind_subtype, b" phy=", of_u32(phy.0));
+    put_named(out, behind_phy, b" target=", of_u32(target.0))
 }
 
 pub(crate) fn header(out: &mut [u8], f: AWDLActionFrame) -> usize
     requires { ⌜ 128 ≤ length (now out) ⌝ }
     ensures { λ r. ⌜ PutWithRoom (now (out .entry)) 0 (headerLine f) r (now (out .exit)) ⌝ }
 {
-    let phy = f.phy_tx_time;
-    let target = f.target_tx_time;
-    let behind_subtype = put_named(out, 0, b"frame subtype=", of_u8(f.subtype));
-    let behind_phy = put_named(out, behind_subtype, b" phy=", of_u32(phy.0));
-    let behind_target = put_named(out, behind_phy, b" target=", of_u32(target.0));
-    let behind_delta = put_delta(out, behind_target, tx_delta(phy, target));
+    let behind_fields = put_header_fields(out, f);
+    let gap = of_u32(tx_delta(f.phy_tx_time, f.target_tx_time));
+    let behind_delta = put_named(out, behind_fields, b" delta=", gap);
     put_text(out, behind_delta, b"\n")
 }
 

@@ -1,7 +1,7 @@
--- The number of each refusal.
+-- The number of each refusal. None has 9.
 use Prim.Native.Nat.{ℕ}
 use Rattle.wire.specs.declared.refusal.Refusal.{Refusal}
-use Rattle.wire.specs.declared.refusal.Refusal.the-variants.{Short, NotAction, NotVersion, UnicastLength, Encoding, NoRoom, Inconsistent, TooLong, SentBeforeHandOver, ChannelCount}
+use Rattle.wire.specs.declared.refusal.Refusal.the-variants.{Short, NotAction, NotVersion, UnicastLength, Encoding, NoRoom, Inconsistent, TooLong, ChannelCount}
 
 abbrev pub numberOf : Refusal → ℕ
 numberOf Short = 1
@@ -12,5 +12,4 @@ numberOf Encoding = 5
 numberOf NoRoom = 6
 numberOf Inconsistent = 7
 numberOf TooLong = 8
-numberOf SentBeforeHandOver = 9
 numberOf ChannelCount = 10

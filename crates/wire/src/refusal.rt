@@ -19,14 +19,12 @@ pub enum Refusal {
     Inconsistent,
     // An item's value is longer than its length field can say.
     TooLong,
-    // A sending stamp is below the hand-over stamp.
-    SentBeforeHandOver,
     // The count in front of a channel sequence is not that of sixteen entries.
     ChannelCount,
 }
 
 impl Refusal {
-    // The number that the report shows.
+    // The number that the report shows. 9 told of a sending stamp below the hand-over stamp, and is not given to anything else.
     pub fn number(self) -> u8
         ensures { λ r. ⌜ r ≡ numberOf self ⌝ }
     {
@@ -39,7 +37,6 @@ impl Refusal {
             Refusal::NoRoom => 6,
             Refusal::Inconsistent => 7,
             Refusal::TooLong => 8,
-            Refusal::SentBeforeHandOver => 9,
             Refusal::ChannelCount => 10,
         }
     }

@@ -1,18 +1,15 @@
--- `tx_delta` meets its contract: the test that led to an answer is that of `delta`.
+-- `tx_delta` meets its contract: the wrapped difference, added to the hand-over stamp, wraps to the sending stamp, and no other number of 32 bits does.
 -- Assumes nothing.
 use Rattle.action_frame.proofs.tx_delta.Statement.{statement}
 use Rattle.action_frame.proofs.tx_delta.Tie as tie
-use borrow.Author.Tests.{le-leb, lt-leb}
+use borrow.Author.Needs.{needs}
+use native.Mathlib.Omega.{arith}
+
+wrapping-sub-u32-requires : tie.Need-wrapping-sub-u32-requires
+wrapping-sub-u32-requires c κs = search needs
 
 returns : tie.Need-returns
-returns c =
-    let a = c .before .args in
-    rw (lt-leb (a .target .0) (a .phy .0) (c .if1 .taken))
-
-returns-2 : tie.Need-returns-2
-returns-2 c =
-    let a = c .before .args in
-    rw (le-leb (a .target .0) (a .phy .0) (c .if1 .left))
+returns c = omega arith
 
 pub tx-delta-spec : {M : Type 1} → statement M
-tx-delta-spec = tie.close (tie.spec returns returns-2)
+tx-delta-spec = tie.close (tie.spec wrapping-sub-u32-requires returns)

@@ -1,42 +1,24 @@
--- `header` meets its contract: its words, numbers and the gap stand behind each other, with room for all.
+-- `header` meets its contract: the gap and the line's end stand behind the three fields, with room for all.
 -- Assumes nothing.
-use Rattle.report.proofs.Room.{room-then}
+use borrow.Author.Needs.{needs}
 use Rattle.report.proofs.lines.header.Statement.{statement}
 use Rattle.report.proofs.lines.header.Tie as tie
-use borrow.Author.Needs.{needs}
+use Rattle.report.proofs.Room.{room-then}
 
-slice-aggregate-put-named : tie.Need-slice-aggregate-put-named
-slice-aggregate-put-named c = search needs
-
-of-u8-requires : tie.Need-of-u8-requires
-of-u8-requires c κs = search needs
-
-put-named-requires : tie.Need-put-named-requires
-put-named-requires c κs = search needs
-
-slice-aggregate-put-named-2 : tie.Need-slice-aggregate-put-named-2
-slice-aggregate-put-named-2 c = search needs
-
-of-u32-requires : tie.Need-of-u32-requires
-of-u32-requires c κs = search needs
-
-put-named-requires-2 : tie.Need-put-named-requires-2
-put-named-requires-2 c κs = search needs
-
-slice-aggregate-put-named-3 : tie.Need-slice-aggregate-put-named-3
-slice-aggregate-put-named-3 c = search needs
-
-of-u32-requires-2 : tie.Need-of-u32-requires-2
-of-u32-requires-2 c κs = search needs
-
-put-named-requires-3 : tie.Need-put-named-requires-3
-put-named-requires-3 c κs = search needs
+put-header-fields-requires : tie.Need-put-header-fields-requires
+put-header-fields-requires c κs = search needs
 
 tx-delta-requires : tie.Need-tx-delta-requires
 tx-delta-requires c κs = search needs
 
-put-delta-requires : tie.Need-put-delta-requires
-put-delta-requires c κs = search needs
+of-u32-requires : tie.Need-of-u32-requires
+of-u32-requires c κs = search needs
+
+slice-aggregate-put-named : tie.Need-slice-aggregate-put-named
+slice-aggregate-put-named c = search needs
+
+put-named-requires : tie.Need-put-named-requires
+put-named-requires c κs = search needs
 
 slice-aggregate-put-text : tie.Need-slice-aggregate-put-text
 slice-aggregate-put-text c = search needs
@@ -49,27 +31,18 @@ same-length c = search needs
 
 returns : tie.Need-returns
 returns c =
-    let subtype = rw (c .before .before .before .before .before .before .before .before .before .before .before .before .before .before .before .before .before .before .before .before .before .before .before .before .before .of-u8 .ensures) at (c .before .before .before .before .before .before .before .before .before .before .before .before .before .before .before .before .before .before .before .before .before .before .before .before .put-named .ensures .0) in
-    let phy = rw (c .before .before .before .before .before .before .before .before .before .before .before .before .before .before .before .before .before .before .before .of-u32 .ensures) at (c .before .before .before .before .before .before .before .before .before .before .before .before .before .before .before .before .before .before .put-named2 .ensures .0) in
-    let target = rw (c .before .before .before .before .before .before .before .before .before .before .before .before .before .of-u322 .ensures) at (c .before .before .before .before .before .before .before .before .before .before .before .before .put-named3 .ensures .0) in
-    let gap = rw (c .before .before .before .before .before .before .before .before .tx-delta .ensures) at (c .before .before .before .before .before .before .before .put-delta .ensures .0) in
-    room-then (room-then (room-then (room-then subtype phy) target) gap) (c .before .before .put-text .ensures .0)
+    let gap = rw (c .before .before .before .before .before .before .before .before .before .before .before .tx-delta .ensures) at (rw (c .before .before .before .before .before .before .before .before .before .before .of-u32 .ensures) at (c .before .before .before .before .before .before .before .put-named .ensures .0)) in
+    room-then (room-then (c .before .before .before .before .before .before .before .before .before .before .before .before .before .before .put-header-fields .ensures .0) gap) (c .before .before .put-text .ensures .0)
 
 pub header-spec : {M : Type 1} → statement M
 header-spec =
     tie.close
     (tie.spec
-    slice-aggregate-put-named
-    of-u8-requires
-    put-named-requires
-    slice-aggregate-put-named-2
-    of-u32-requires
-    put-named-requires-2
-    slice-aggregate-put-named-3
-    of-u32-requires-2
-    put-named-requires-3
+    put-header-fields-requires
     tx-delta-requires
-    put-delta-requires
+    of-u32-requires
+    slice-aggregate-put-named
+    put-named-requires
     slice-aggregate-put-text
     put-text-requires
     same-length
