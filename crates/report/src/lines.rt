@@ -57,7 +57,7 @@ pub(crate) fn two_numbers(out: &mut [u8], first: &[u8], m: u64, second: &[u8], n
     put_text(out, behind_second, b"\n")
 }
 
-// The line's start: 27 letters and three numbers of at most twenty digits. It stands apart from the gap because the search for a
+// The line's start: 27 characters and three numbers of at most twenty digits. It stands apart from the gap because the search for a
 // bound looks back over so many steps only, and four numbers in one function take more.
 fn put_header_fields(out: &mut [u8], f: AWDLActionFrame) -> usize
     requires { ⌜ 128 ≤ length (now out) ⌝ }

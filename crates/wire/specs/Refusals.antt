@@ -1,4 +1,4 @@
--- The number of each refusal. None has 9.
+-- The number of each refusal. None has 9: every two stamps have a gap.
 use Prim.Native.Nat.{ℕ}
 use Rattle.wire.specs.declared.refusal.Refusal.{Refusal}
 use Rattle.wire.specs.declared.refusal.Refusal.the-variants.{Short, NotAction, NotVersion, UnicastLength, Encoding, NoRoom, Inconsistent, TooLong, ChannelCount}
