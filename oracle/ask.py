@@ -268,15 +268,27 @@ def show_mark(mark):
     return f"mark={kind} {show_item(item)} next={following} items={items}"
 
 
-# Answers, from the refusal's number on.
+# Answers, from the refusal's number and its offset on.
+
+ACCEPTED = "0 offset=0"
+
+
+def show_refusal(refusal):
+    return f"{refusal.number} offset={refusal.offset}"
+
+
+def refusal_answer(number, offset):
+    """The refusal itself; the offset is looked at with 1 alone."""
+    return show_refusal(Refused(number, offset if number == awdl.SHORT else 0))
+
 
 def number_answer(name, call):
     """A number alone."""
     def answer(*arguments):
         try:
-            return f"0 {name}={call(*arguments):d}"
+            return f"{ACCEPTED} {name}={call(*arguments):d}"
         except Refused as refusal:
-            return f"{refusal.number} {name}=0"
+            return f"{show_refusal(refusal)} {name}=0"
     return answer
 
 
@@ -286,8 +298,8 @@ def reading_answer(name, read, show, zero):
         try:
             size, record = read(*arguments)
         except Refused as refusal:
-            return f"{refusal.number} {name}=0 {show(zero)}"
-        return f"0 {name}={size} {show(record)}"
+            return f"{show_refusal(refusal)} {name}=0 {show(zero)}"
+        return f"{ACCEPTED} {name}={size} {show(record)}"
     return answer
 
 
@@ -297,28 +309,28 @@ def writing_answer(write):
         try:
             size, buffer = write(*arguments)
         except Refused as refusal:
-            return f"{refusal.number} size=0 buffer={show_bytes(arguments[-1])}"
-        return f"0 size={size} buffer={show_bytes(buffer)}"
+            return f"{show_refusal(refusal)} size=0 buffer={show_bytes(arguments[-1])}"
+        return f"{ACCEPTED} size={size} buffer={show_bytes(buffer)}"
     return answer
 
 
 def fixed_answer(channel):
     try:
-        return f"0 {show_sequence(awdl.fixed_sequence(channel))}"
+        return f"{ACCEPTED} {show_sequence(awdl.fixed_sequence(channel))}"
     except Refused as refusal:
-        return f"{refusal.number} {show_sequence(awdl.ZERO_SEQUENCE)}"
+        return f"{show_refusal(refusal)} {show_sequence(awdl.ZERO_SEQUENCE)}"
 
 
 def entry_answer(sequence, entry):
     try:
         channel = awdl.sequence_entry(sequence, entry)
     except Refused as refusal:
-        return f"{refusal.number} {show_channel(awdl.Channel(0, 0, 0))}"
-    return "0 nothing" if channel is None else f"0 {show_channel(channel)}"
+        return f"{show_refusal(refusal)} {show_channel(awdl.Channel(0, 0, 0))}"
+    return f"{ACCEPTED} nothing" if channel is None else f"{ACCEPTED} {show_channel(channel)}"
 
 
 def tail_answer(data):
-    return f"0 tail={show_bytes(awdl.frame_tail(data))}"
+    return f"{ACCEPTED} tail={show_bytes(awdl.frame_tail(data))}"
 
 
 def item_words(item):
@@ -335,29 +347,34 @@ def end_words(how, at):
 
 def step_answer(tail, at):
     item = awdl.step(tail, at)
-    return f"0 {item_words(item) if isinstance(item, awdl.Item) else end_words(item, at)}"
+    return f"{ACCEPTED} {item_words(item) if isinstance(item, awdl.Item) else end_words(item, at)}"
 
 
 def step_with_value_answer(tail, at):
     item = awdl.step(tail, at)
     if isinstance(item, awdl.Item):
-        return f"0 {item_and_value_words(tail, item)}"
-    return f"0 {end_words(item, at)} {show_value(b'')}"
+        return f"{ACCEPTED} {item_and_value_words(tail, item)}"
+    return f"{ACCEPTED} {end_words(item, at)} {show_value(b'')}"
 
 
 def value_answer(tail, item):
-    return f"0 {show_value(awdl.value(tail, item))}"
+    return f"{ACCEPTED} {show_value(awdl.value(tail, item))}"
+
+
+def offset_answer(data, item, offset):
+    found = awdl.offset_in_frame(data, item, offset)
+    return f"{ACCEPTED} nothing" if found is None else f"{ACCEPTED} in_frame={found}"
 
 
 def end_answer(tail):
     how, at, items = awdl.end(tail)
-    return f"0 {end_words(how, at)} items={items}"
+    return f"{ACCEPTED} {end_words(how, at)} items={items}"
 
 
 def walk_answer(tail):
     words = [item_and_value_words(tail, item) for item in awdl.walk(tail)]
     how, at, items = awdl.end(tail)
-    return " ".join(["0", *words, end_words(how, at), f"items={items}"])
+    return " ".join([ACCEPTED, *words, end_words(how, at), f"items={items}"])
 
 
 def found_words(item, shown):
@@ -379,7 +396,7 @@ def channel_sequences(tail, at=0):
 def first_answer(search, show, nothing):
     def answer(tail, at=0):
         for item, record in search(tail, at):
-            return f"0 {found_words(item, show(record))}"
+            return f"{ACCEPTED} {found_words(item, show(record))}"
         return nothing
     return answer
 
@@ -387,40 +404,45 @@ def first_answer(search, show, nothing):
 def all_answer(search, show):
     def answer(tail):
         words = [found_words(item, show(record)) for item, record in search(tail)]
-        return " ".join(["0", *words, f"records={len(words)}"])
+        return " ".join([ACCEPTED, *words, f"records={len(words)}"])
     return answer
 
 
-first_data_path = first_answer(data_paths, show_data_path, "0 nothing")
+first_data_path = first_answer(data_paths, show_data_path, f"{ACCEPTED} nothing")
 first_synchronization = first_answer(
     synchronizations, show_synchronization,
-    f"0 nothing {show_synchronization(awdl.ZERO_SYNCHRONIZATION)}",
+    f"{ACCEPTED} nothing {show_synchronization(awdl.ZERO_SYNCHRONIZATION)}",
 )
 first_channel_sequence = first_answer(
     channel_sequences, show_channel_sequence,
-    f"0 nothing {show_channel_sequence(awdl.ZERO_CHANNEL_SEQUENCE)}",
+    f"{ACCEPTED} nothing {show_channel_sequence(awdl.ZERO_CHANNEL_SEQUENCE)}",
 )
 
 
 def next_line_answer(data, mark, buffer):
     found = awdl.next_line(data, mark)
     if found is None:
-        return f"0 nothing buffer={show_bytes(buffer)}"
+        return f"{ACCEPTED} nothing buffer={show_bytes(buffer)}"
     line, mark = found
     line += "\n"
     _, buffer = awdl.put(line.encode(), buffer)
-    return f"0 line length={len(line)} {show_mark(mark)} buffer={show_bytes(buffer)}"
+    return f"{ACCEPTED} line length={len(line)} {show_mark(mark)} buffer={show_bytes(buffer)}"
 
 
 def lines_answer(report):
     def answer(data):
         lines = list(report(data))
-        return " | ".join(["0", *lines, f"lines={len(lines)}"])
+        return " | ".join([ACCEPTED, *lines, f"lines={len(lines)}"])
     return answer
 
 
+def word_answer(word):
+    kind, channel = awdl.channel_of(word)
+    return f"{ACCEPTED} channel_kind={kind} channel={channel}"
+
+
 def constants_answer(group):
-    return " ".join(["0", *(f"{name}={bits}" for name, bits in group.items())])
+    return " ".join([ACCEPTED, *(f"{name}={bits}" for name, bits in group.items())])
 
 
 # The calls: their arguments and their answers.
@@ -467,6 +489,7 @@ U8 = one(u8)
 U16 = one(u16)
 U32 = one(u32)
 AT = one(usize)
+OFFSET = one(usize)
 
 
 def kept(keep):
@@ -474,11 +497,12 @@ def kept(keep):
 
 
 CALLS = {
-    "refusal_number": ([one(REFUSALS)], number_answer("number", lambda found: found)),
+    "refusal": ([one(REFUSALS), OFFSET], refusal_answer),
     "frame_read": ([BYTES], reading_answer(
         "size", awdl.read_frame, show_frame, awdl.Frame(0, 0, 0))),
     "frame_tail": ([BYTES], tail_answer),
     "frame_write": ([FRAME, BYTES, BUFFER], writing_answer(awdl.write_frame)),
+    "offset_in_frame": ([BYTES, ITEM, OFFSET], offset_answer),
     "tx_delta": ([U32, U32], number_answer("micros", awdl.tx_delta)),
     "step": ([BYTES, AT], step_answer),
     "step_with_value": ([BYTES, AT], step_with_value_answer),
@@ -503,7 +527,8 @@ CALLS = {
     "data_path_read": ([BYTES], reading_answer(
         "size", awdl.read_data_path, show_data_path, awdl.ZERO_DATA_PATH)),
     "data_path_consistent": ([DATA_PATH], number_answer("consistent", awdl.is_consistent)),
-    "data_path_mend": ([DATA_PATH], lambda record: f"0 {show_data_path(awdl.mend(record))}"),
+    "data_path_mend": (
+        [DATA_PATH], lambda record: f"{ACCEPTED} {show_data_path(awdl.mend(record))}"),
     "data_path_size": ([DATA_PATH], number_answer("size", awdl.data_path_size)),
     "data_path_write": ([DATA_PATH, BUFFER], writing_answer(awdl.write_data_path)),
     "synchronization_read": ([BYTES], reading_answer(
@@ -524,7 +549,7 @@ CALLS = {
         [CHANNEL_SEQUENCE], number_answer("size", awdl.channel_sequence_size)),
     "channel_sequence_head": (
         [CHANNEL_SEQUENCE],
-        lambda record: f"0 head={show_bytes(awdl.channel_sequence_head(record))}"),
+        lambda record: f"{ACCEPTED} head={show_bytes(awdl.channel_sequence_head(record))}"),
     "channel_sequence_write": (
         [CHANNEL_SEQUENCE, BUFFER], writing_answer(awdl.write_channel_sequence)),
     "sequence_read": ([BYTES, AT, U8], reading_answer(
@@ -543,13 +568,12 @@ CALLS = {
     "support_channel": ([U8], number_answer("bits", awdl.support_channel)),
     "channel_bandwidth": ([U8], number_answer("bits", awdl.channel_bandwidth)),
     "band": ([U8], number_answer("bits", awdl.band)),
-    "channel_word": (
-        [U16], lambda word: "0 channel_kind=%s channel=%d" % awdl.channel_of(word)),
-    "word_of_channel": ([channel_and_kind], lambda channel: f"0 word={channel[1]}"),
+    "channel_word": ([U16], word_answer),
+    "word_of_channel": ([channel_and_kind], lambda channel: f"{ACCEPTED} word={channel[1]}"),
     "unicast_options": ([U32], kept(awdl.OPTIONS_KEEP)),
     "extended_flags": ([U16], kept(awdl.EXTENDED_KEEP)),
     "has": ([U16, U16], number_answer("has", lambda word, mask: word & mask != 0)),
-    "dump_start": ([BYTES], lambda data: f"0 {show_mark(awdl.dump_start(data))}"),
+    "dump_start": ([BYTES], lambda data: f"{ACCEPTED} {show_mark(awdl.dump_start(data))}"),
     "next_line": ([BYTES, MARK, one(bytes_of_size(128))], next_line_answer),
     "lines": ([BYTES], lines_answer(awdl.lines)),
     "dump": ([BYTES], lines_answer(awdl.dump)),

@@ -1,10 +1,11 @@
-"""One reading of docs/01-scope.md (01), in its order and words, with No. 1 and
-No. 2 of docs/02-change-requests.md (02).
+"""One reading of docs/01-scope.md (01), in its order and words, with No. 1,
+No. 2 and No. 4 of docs/02-change-requests.md (02).
 
 It is written from these alone; only the names of bits, and the numbers of types
 and subtypes that 01 does not list, are the Rust's. A reader gives its size
 and its record, a writer its size and the buffer as it is afterwards, and a
-call that is refused raises `Refused` with 01's number.
+call that is refused raises `Refused` with 01's number, and with 1 also the offset
+of the field that did not fit.
 """
 
 from collections import namedtuple
@@ -24,13 +25,19 @@ CHANNEL_COUNT = 10          # the count byte of a channel sequence is not 15 (02
 
 
 class Refused(Exception):
-    def __init__(self, number):
-        super().__init__(number)
+    """A number and, with 1, the offset of the first byte of the field that did
+    not fit; all other answers give 0 there (02, No. 4)."""
+
+    def __init__(self, number, offset=0):
+        super().__init__(number, offset)
         self.number = number
+        self.offset = offset
 
 
 class Source:
-    """Bytes that are read in order: the first fault met wins."""
+    """Fields that are read in order: the first fault met wins. A field is taken
+    as a whole, with the reserved byte behind it, and its offset counts from the
+    start of the data, wherever reading begins (02, No. 4)."""
 
     def __init__(self, data, at=0):
         self.data = data
@@ -40,7 +47,7 @@ class Source:
         start = self.at
         self.at = start + width
         if self.at > len(self.data):
-            raise Refused(SHORT)
+            raise Refused(SHORT, start)
         return self.data[start:self.at]
 
     def number(self, width):
@@ -72,14 +79,14 @@ CUT = "cut"
 
 
 def read_frame(data):
-    """08 10; subtype, one reserved byte, two stamps of 4 bytes; then the tail."""
+    """08 10; subtype, one reserved byte, two stamps of 4 bytes; then the tail.
+    The subtype and the reserved byte are one field (02, No. 4)."""
     source = Source(data)
     if source.number(1) != 0x08:
         raise Refused(NOT_ACTION)
     if source.number(1) != 0x10:
         raise Refused(NOT_VERSION)
-    subtype = source.number(1)
-    source.take(1)
+    subtype, _ = source.take(2)
     frame = Frame(subtype, source.number(4), source.number(4))
     return source.at, frame
 
@@ -125,6 +132,14 @@ def value(tail, item):
     if behind(item) > len(tail):
         return b""
     return tail[item.at + ITEM_HEADER_SIZE:behind(item)]
+
+
+def offset_in_frame(data, item, offset):
+    """An offset of an item's value as one of the frame (02, No. 4); None
+    where the tail does not hold the item, or the offset is above its length."""
+    if behind(item) > len(frame_tail(data)) or offset > item.length:
+        return None
+    return HEADER_SIZE + item.at + ITEM_HEADER_SIZE + offset
 
 
 def walk(tail, at=0):
@@ -200,12 +215,13 @@ def channel_of(word):
 
 
 def read_data_path(data):
+    """The country's two letters and pad are one field (02, No. 4)."""
     source = Source(data)
     fields = {}
     flags = source.number(2)
     if flags >> 8 & 1:
-        fields["country"] = 1, source.number(1), source.number(1)
-        source.take(1)
+        first, second, _ = source.take(3)
+        fields["country"] = 1, first, second
     if flags >> 9 & 1:
         fields["channel"] = 1, *channel_of(source.number(2))
     if flags >> 0 & 1:
@@ -359,10 +375,12 @@ FIXED_FIELDS = [
 
 
 def fixed_fields(data):
-    """An address is its bytes, every other field a number."""
+    """An address is its bytes, every other field a number. Each goes on to the
+    offset of the next: byte 28 belongs to the presence mode (02, No. 4)."""
+    ends = [offset for _, offset, _ in FIXED_FIELDS[1:]] + [FIXED_SIZE]
     fields = []
-    for name, offset, width in FIXED_FIELDS:
-        part = data[offset:offset + width]
+    for (name, offset, width), end_of_field in zip(FIXED_FIELDS, ends):
+        part = Source(data, offset).take(end_of_field - offset)[:width]
         fields.append(part if name == "master_address" else int.from_bytes(part, "little"))
     return fields
 
@@ -399,7 +417,8 @@ def entry_size(encoding):
 
 
 def read_sequence(data, at, encoding):
-    """The place behind the sequence, and it; 5 is checked before 1."""
+    """The place behind the sequence, and it; 5 is checked before 1. The 16
+    entries are one field (02, No. 4)."""
     source = Source(data, at)
     used = bytearray(source.take(ENTRIES * entry_size(encoding)))
     if encoding == LEGACY:
@@ -499,10 +518,12 @@ ZERO_SYNCHRONIZATION = Synchronization(
 
 
 def read_channel_sequence(data, at=0):
-    """The place behind it, and it: six bytes, then 16 entries in the encoding
-    named. 10 is checked after 1 for the six bytes and before 5."""
+    """The place behind it, and it: six bytes, which are five fields, then 16
+    entries in the encoding named. 10 is checked after 1 for the six bytes and
+    before 5."""
     source = Source(data, at)
-    count, encoding, duplicate_count, step_count = source.take(4)
+    count, encoding = source.number(1), source.number(1)
+    duplicate_count, step_count = source.number(1), source.number(1)
     fill_channel = source.number(2)
     if count != COUNT_LESS_ONE:
         raise Refused(CHANNEL_COUNT)
@@ -535,7 +556,7 @@ def write_channel_sequence(record, buffer):
 def read_synchronization(data):
     """The 33 bytes, accepted only with the sequence; what follows the entries
     is ignored."""
-    fields = fixed_fields(Source(data).take(FIXED_SIZE))
+    fields = fixed_fields(data)
     size, sequence = read_channel_sequence(data, FIXED_SIZE)
     return size, Synchronization(*fields, sequence)
 

@@ -1,8 +1,10 @@
 """Makes questions for docs/ASK.md: random and damaged frames and values, every
-cut of good ones, channel sequences with wrong counts and encodings, records of
-every presence, buffers short, exact and long, numbers at the limits of their
-fields, stamps between which the clock has rolled over, bytes in every form, bad
-questions, and lines around the longest one.
+cut of good ones, cuts around the first byte of each field, offsets of short
+values in their frames, places behind the start and past the end, channel
+sequences with wrong counts and encodings, records of every presence, buffers
+short, exact and long, numbers at the limits of their fields, stamps between
+which the clock has rolled over, bytes in every form, bad questions, and lines
+around the longest one.
 """
 
 import re
@@ -102,7 +104,9 @@ def buffer(size):
 # Values, tails and frames.
 
 def data_path_value():
+    """Any presence; seldom every field, so that the last ones are there too."""
     flags = R.getrandbits(16) & (R.getrandbits(16) | R.getrandbits(16))
+    flags |= 0x9307 if chance(6) else 0
     data = awdl.little(flags, 2)
     for bit, width in ((8, 3), (9, 2), (0, 8), (1, 6), (2, 6)):
         if flags >> bit & 1:
@@ -111,7 +115,7 @@ def data_path_value():
         length = R.choice((4, 8)) if chance(1.1) else some(65535)
         data += awdl.little(length, 2) + R.randbytes(min(length, 12))
     if flags >> 15 & 1:
-        extended = R.getrandbits(16)
+        extended = R.getrandbits(16) | (0x0025 if chance(4) else 0)
         data += awdl.little(extended, 2)
         for bit, width in ((0, 2), (2, 4), (5, 12)):
             if extended >> bit & 1:
@@ -203,6 +207,11 @@ def good_frame():
 
 def frame():
     return damaged(good_frame()) if chance(2) else good_frame()
+
+
+def somewhere(data):
+    """Any place in the bytes, at their end or past it."""
+    return some(LARGEST) if chance(2) else R.randrange(len(data) + 3)
 
 
 def place(data, most=LARGEST):
@@ -345,7 +354,7 @@ def channel_words():
     return words_of(f"encoding={encoding()} first={some(255)} second={second}")
 
 
-def item_words(data):
+def some_item(data):
     """An item of the walk mostly, else any."""
     items = list(awdl.walk(data))
     item = R.choice(items) if items else awdl.Item(0, 0, 0)
@@ -353,7 +362,11 @@ def item_words(data):
         item = item._replace(length=some(LARGEST) if chance(3) else R.getrandbits(5))
     if chance(4):
         item = item._replace(at=some(LARGEST) if chance(3) else R.getrandbits(5))
-    return words_of(ask.show_item(item))
+    return item
+
+
+def item_words(data):
+    return words_of(ask.show_item(some_item(data)))
 
 
 def mark_words(data):
@@ -409,11 +422,20 @@ LISTED = [
     *(f"constants {group}" for group in (
         "types", "sizes", "subtypes", "data_path_flags", "extended_flags",
         "unicast_options", "channel_map", "legacy_flags", "flags")),
-    *(f"refusal_number {name}" for name in (
-        "Short", "NotAction", "NotVersion", "UnicastLength", "Encoding", "NoRoom",
-        "Inconsistent", "TooLong", "ChannelCount", "SentBeforeHandOver", "short", "None")),
     *(f"entry_size {kind}" for kind in ("simple", "legacy", "opclass", "Simple")),
+    "refusal_number Short",
 ]
+REFUSALS = (
+    "Short", "NotAction", "NotVersion", "UnicastLength", "Encoding", "NoRoom",
+    "Inconsistent", "TooLong", "ChannelCount", "SentBeforeHandOver", "short", "None",
+)
+TYPED = {
+    awdl.DATA_PATH_TYPE: ("data_path_read", awdl.read_data_path, data_path_value),
+    awdl.SYNCHRONIZATION_TYPE: (
+        "synchronization_read", awdl.read_synchronization, synchronization_value),
+    awdl.CHANNEL_SEQUENCE_TYPE: (
+        "channel_sequence_read", awdl.read_channel_sequence, channel_sequence_value),
+}
 
 
 def read():
@@ -425,6 +447,69 @@ def every_cut():
     name = R.choice(READER_NAMES)
     data = READERS[name]()
     return [f"{name} {spell(data[:length])}" for length in range(len(data) + 1)]
+
+
+def short_at(read, data):
+    """The offset of the field that does not fit; None where nothing is short."""
+    try:
+        read(data)
+    except awdl.Refused as refusal:
+        return refusal.offset if refusal.number == awdl.SHORT else None
+    return None
+
+
+def cut_at_field(read, data):
+    """Cut before the first byte of a field or at the end, or one byte beside it."""
+    offsets = {short_at(read, data[:length]) for length in range(len(data))}
+    place_of_cut = R.choice([*sorted(offsets - {None}), len(data)])
+    return data[:max(place_of_cut + R.choice((-1, 0, 0, 1)), 0)]
+
+
+def header_cut():
+    return [f"frame_read {spell(cut_at_field(awdl.read_frame, good_frame()[:13]))}"]
+
+
+def field_cut():
+    name, read, make = TYPED[R.choice((*READ, awdl.DATA_PATH_TYPE))]
+    if name != "channel_sequence_read":
+        return [f"{name} {spell(cut_at_field(read, make()))}"]
+    at = R.choice((0, 0, 1, 2, 12, 33))
+    data = cut_at_field(lambda part: read(part, at), R.randbytes(at) + make())
+    return [f"{name} {spell(data)} {at}"]
+
+
+def short_in_frame():
+    """The value of a frame's last item, and where in the frame it was short."""
+    kind = R.choice(READ)
+    name, read, make = TYPED[kind]
+    data = cut_at_field(read, make())
+    before = good_tail()
+    item = awdl.Item(len(before), kind, len(data))
+    header = good_frame()[:awdl.HEADER_SIZE]
+    whole = header + before + bytes([kind]) + awdl.little(len(data), 2) + data
+    offset = short_at(read, data) or 0
+    at = " 0" if name == "channel_sequence_read" else ""
+    return [
+        f"{name} {spell(data)}{at}",
+        f"offset_in_frame {spell(whole)} {words_of(ask.show_item(item))} {offset}",
+    ]
+
+
+def offset_in_frame():
+    """An offset in the item's value, at its end, above it or any."""
+    data = frame()
+    item = some_item(awdl.frame_tail(data))
+    if chance(4):
+        item = item._replace(type=some(255))
+    middle = R.randrange(item.length + 1)
+    near = item.length + R.choice((-1, 0, 0, 1))
+    offset = R.choice((0, middle, near, near, some(LARGEST)))
+    offset = min(max(offset, 0), LARGEST)
+    return [f"offset_in_frame {spell(data)} {words_of(ask.show_item(item))} {offset}"]
+
+
+def refusal():
+    return [f"refusal {R.choice(REFUSALS)} {number(LARGEST)}"]
 
 
 def step():
@@ -498,7 +583,7 @@ def channel_sequence_read():
     at = R.choice((0, 0, 1, 5, 33))
     data = R.randbytes(at) + seldom_damaged(channel_sequence_value())
     if chance(8):
-        at = some(LARGEST) if chance(2) else R.randrange(len(data) + 3)
+        at = somewhere(data)
     return [f"channel_sequence_read {spell(data)} {at}"]
 
 
@@ -530,9 +615,9 @@ def every_channel_sequence_buffer():
 
 def sequence_read():
     at = R.choice((0, 0, 1, 5))
-    data = R.randbytes(at + R.choice((15, 16, 17, 31, 32, 33, 40)))
-    if chance(8):
-        at = some(LARGEST)
+    data = R.randbytes(at + R.choice((0, 1, 15, 16, 17, 31, 32, 33, 40)))
+    if chance(6):
+        at = somewhere(data)
     return [f"sequence_read {spell(data)} {at} {encoding()}"]
 
 
@@ -598,6 +683,7 @@ def large():
         f"step 0CFFFF+{data} 0", f"first_data_path 0CFFFF+{data}",
         f"channel_sequence_read {data} {R.choice((0, 65513, 65514, 65978, 65979))}",
         f"all_data_paths 0CFFFF+00*65535+0C0200{R.getrandbits(16):04X}",
+        f"offset_in_frame 0810+00*10+0CFFFF+00*65535 0 12 65535 {R.randrange(65533, 65537)}",
     ))]
 
 
@@ -656,7 +742,8 @@ MAKERS = [
     *[synchronization_write] * 3, *[channel_sequence_read] * 3, *[channel_sequence_ask] * 3,
     *[channel_sequence_write] * 3, *[sequence_read] * 2, *[sequence_ask] * 2,
     *[sequence_write] * 2, *[sequence_entry] * 2, *[of_channel] * 2, *[small] * 2,
-    two_words, listed, *[next_line] * 3,
+    two_words, listed, *[next_line] * 3, *[field_cut] * 6, header_cut,
+    *[short_in_frame] * 2, *[offset_in_frame] * 3, refusal,
 ]
 EVERY = [
     *[every_cut] * 3, *[every_place] * 2, every_buffer, every_channel_sequence_cut,

@@ -1,4 +1,4 @@
--- The number and the values that each answer stands for.
+-- The number, the offset and the values that each answer stands for.
 use Rattle.wire.specs.Outcomes.{Outcome, outcome}
 use Rattle.action_frame.specs.declared.AWDLActionFrame.{AWDLActionFrame}
 use Rattle.action_frame.specs.declared.ReadFrame.{ReadFrame}

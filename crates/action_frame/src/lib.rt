@@ -1,4 +1,4 @@
-// The head of an action frame, the part behind it, and the gap between its two stamps.
+// The head of an action frame, the part behind it, the offsets of its items' values in it, and the gap between its two stamps.
 ghost use mathlib.Core.Path.{_≡_};
 ghost use Prim.Native.Nat.{_≤_, min};
 ghost use lib.ListN.{length};
@@ -7,8 +7,10 @@ ghost use Rattle.wire.specs.Said.{saidPlace, saidSize};
 ghost use Rattle.wire.specs.Parts.{partAt};
 ghost use Rattle.wire.specs.Writing.{Put, Wrote};
 ghost use Rattle.action_frame.specs.Frames.{fixedByte, headerOf, fields, header, tailOf, headerBytes, bytesOf};
+ghost use Rattle.action_frame.specs.Offsets.{offsetInFrame};
 ghost use Rattle.action_frame.specs.Stamps.{delta};
 ghost use Rattle.action_frame.specs.Said.{saidFrame};
+use tlv_items::Item;
 use wire::Place;
 use wire::ReadU8;
 use wire::ReadU32;
@@ -31,6 +33,13 @@ pub struct AWDLActionFrame {
 pub enum ReadFrame {
     Read(AWDLActionFrame, usize),
     Refused(Refusal),
+}
+
+// An offset that counts from the start of the frame.
+pub enum InFrame {
+    At(usize),
+    // The item does not lie within the frame, or the offset lies past the end of its value.
+    Nothing,
 }
 
 // The pair of bytes in front of every frame.
@@ -75,6 +84,29 @@ impl AWDLActionFrame {
             return &frame[len..];
         }
         &frame[AWDLActionFrame::HEADER_SIZE..]
+    }
+
+    // The offset in the frame of what has an offset in the value of one of its items: where the reader of the value was short, the
+    // field would start there. It may start at the value's end, and so the end has an offset too. A caller looks at the number
+    // first, since only with 1 does an offset tell of a field.
+    pub fn offset_in_frame(frame: &[u8], item: Item, offset: usize) -> InFrame
+        ensures { λ r. ⌜ r ≡ offsetInFrame (now (frame .entry)) item offset ⌝ }
+    {
+        let at = item.at;
+        let length = item.length;
+        let Place::At(start) = wire::field_at(frame, AWDLActionFrame::HEADER_SIZE, at) else {
+            return InFrame::Nothing;
+        };
+        let Place::At(value) = wire::field_at(frame, start, 3) else {
+            return InFrame::Nothing;
+        };
+        let Place::At(_) = wire::field_at(frame, value, length) else {
+            return InFrame::Nothing;
+        };
+        if length < offset {
+            return InFrame::Nothing;
+        }
+        InFrame::At(value + offset)
     }
 
     pub fn write(self, tail: &[u8], buf: &mut [u8]) -> Size

@@ -13,7 +13,7 @@ use crate::words::put_text;
 use report::Mark;
 use text::Decimal;
 
-pub(crate) const REFUSAL_NUMBER: usize = 0;
+pub(crate) const REFUSAL: usize = 0;
 
 pub(crate) const FRAME_READ: usize = 1;
 
@@ -111,36 +111,38 @@ pub(crate) const ALL_CHANNEL_SEQUENCES: usize = 47;
 
 pub(crate) const FRAME_TAIL: usize = 48;
 
-pub(crate) const CHANNEL_SEQUENCE_HEAD: usize = 49;
+pub(crate) const OFFSET_IN_FRAME: usize = 49;
 
-pub(crate) const SEQUENCE_ENTRY: usize = 50;
+pub(crate) const CHANNEL_SEQUENCE_HEAD: usize = 50;
 
-pub(crate) const DUMP_START: usize = 51;
+pub(crate) const SEQUENCE_ENTRY: usize = 51;
 
-pub(crate) const LINES: usize = 52;
+pub(crate) const DUMP_START: usize = 52;
 
-pub(crate) const DUMP: usize = 53;
+pub(crate) const LINES: usize = 53;
 
-pub(crate) const CONSTANTS: usize = 54;
+pub(crate) const DUMP: usize = 54;
 
-pub(crate) const NEXT_LINE: usize = 55;
+pub(crate) const CONSTANTS: usize = 55;
 
-pub(crate) const FRAME_WRITE: usize = 56;
+pub(crate) const NEXT_LINE: usize = 56;
 
-pub(crate) const WRITE_ITEM: usize = 57;
+pub(crate) const FRAME_WRITE: usize = 57;
 
-pub(crate) const DATA_PATH_WRITE: usize = 58;
+pub(crate) const WRITE_ITEM: usize = 58;
 
-pub(crate) const SYNCHRONIZATION_WRITE: usize = 59;
+pub(crate) const DATA_PATH_WRITE: usize = 59;
 
-pub(crate) const CHANNEL_SEQUENCE_WRITE: usize = 60;
+pub(crate) const SYNCHRONIZATION_WRITE: usize = 60;
 
-pub(crate) const SEQUENCE_WRITE: usize = 61;
+pub(crate) const CHANNEL_SEQUENCE_WRITE: usize = 61;
+
+pub(crate) const SEQUENCE_WRITE: usize = 62;
 
 // The names of the calls, in the order of their numbers.
 pub(crate) fn number_of(word: &[u8]) -> Decimal {
     find(
-        b"refusal_number frame_read tx_delta data_path_read data_path_consistent data_path_mend data_path_size \
+        b"refusal frame_read tx_delta data_path_read data_path_consistent data_path_mend data_path_size \
         channel_word word_of_channel unicast_options extended_flags has synchronization_read \
         synchronization_consistent synchronization_size channel_sequence_read channel_sequence_consistent \
         channel_sequence_size sequence_read sequence_consistent sequence_size sequence_fixed channel \
@@ -148,7 +150,7 @@ pub(crate) fn number_of(word: &[u8]) -> Decimal {
         step_with_value value end walk reader_next first_data_path next_data_path reader_first_data_path \
         all_data_paths first_synchronization next_synchronization reader_first_synchronization \
         all_synchronizations first_channel_sequence next_channel_sequence reader_first_channel_sequence \
-        all_channel_sequences frame_tail channel_sequence_head sequence_entry dump_start lines dump \
+        all_channel_sequences frame_tail offset_in_frame channel_sequence_head sequence_entry dump_start lines dump \
         constants next_line frame_write write_item data_path_write synchronization_write \
         channel_sequence_write sequence_write",
         word,
@@ -160,8 +162,8 @@ pub(crate) fn put_letters(buf: &mut [u8; 2048]) -> usize {
     wire::put_slice(
         buf,
         0,
-        b"n g 44 g D D D 2 kc 4 2 22 g S S g8 R R g81 Q Q C C 1 1 e 1 1 1 1 g8 g8 gI g g g8 g g8 g8 g g g8 g8 \
-        g g g8 g8 g g R Q8 g g g t gMo Fgl 1gl Dl Sl Rl Ql",
+        b"n8 g 44 g D D D 2 kc 4 2 22 g S S g8 R R g81 Q Q C C 1 1 e 1 1 1 1 g8 g8 gI g g g8 g g8 g8 g g g8 g8 \
+        g g g8 g8 g g gI8 R Q8 g g g t gMo Fgl 1gl Dl Sl Rl Ql",
     )
 }
 
@@ -171,7 +173,7 @@ fn put_answer_letters(buf: &mut [u8; 2048]) -> usize {
     wire::put_slice(
         buf,
         0,
-        b"N ZF U ZD T -D Z -K W B B H ZS T Z AR T Z AQ T Z -Q L E Z Z B B B B",
+        b"- ZF U ZD T -D Z -K W B B H ZS T Z AR T Z AQ T Z -Q L E Z Z B B B B",
     )
 }
 
@@ -247,6 +249,7 @@ fn texts(
     let bytes = first(given, size_at(v, 0));
     match call {
         FRAME_TAIL => crate::frames::tail(bytes, out, at),
+        OFFSET_IN_FRAME => crate::frames::offset_in_frame(bytes, v, out, at),
         CHANNEL_SEQUENCE_HEAD => sequences::head(v, given, out, at),
         SEQUENCE_ENTRY => sequences::entry(v, given, out, at),
         DUMP_START => lines::dump_start(bytes, out, at),

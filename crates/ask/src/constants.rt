@@ -169,6 +169,6 @@ pub(crate) fn constants(group: usize, out: &mut [u8], at: usize) -> usize {
     let mut buf = [0u8; 2048];
     let n = put_names(&mut buf);
     let names = nth(put_text(&buf, n), group, b'\n');
-    let behind_why = text(out, at, b"0");
+    let behind_why = text(out, at, b"0 offset=0");
     show_list(out, behind_why, names, &v, &bytes)
 }

@@ -5,6 +5,7 @@ use crate::numbers::Numbers;
 use crate::numbers::Said;
 use crate::numbers::none;
 use crate::numbers::number_at;
+use crate::output::named;
 use crate::output::number;
 use crate::output::text;
 use crate::words::between;
@@ -22,7 +23,7 @@ pub(crate) fn put_lists(buf: &mut [u8; 2048]) -> usize {
     wire::put_slice(
         buf,
         0,
-        b"8size=\n8next=\n1number=\n4micros=\n1consistent=\n2word=\n4bits=\n1has=\n1channel=\n1encoding=\nmmark=\n\
+        b"8size=\n8next=\n4micros=\n1consistent=\n2word=\n4bits=\n1has=\n1channel=\n1encoding=\nmmark=\n\
         8at= 1type= 8length=\n\
         8at= 8items=\n\
         8at= 1type= 8length= 8next= 8items=\n\
@@ -43,11 +44,11 @@ pub(crate) fn put_lists(buf: &mut [u8; 2048]) -> usize {
     )
 }
 
-const LISTS: usize = 21;
+const LISTS: usize = 20;
 
 // The list that a letter stands for. A letter that stands for none has the empty one.
 pub(crate) fn list_of(lists: &[u8], letter: u8) -> &[u8] {
-    let line = place_of(b"ZANUTWBHLEMIXYKCQRFDS", 0, letter);
+    let line = place_of(b"ZAUTWBHLEMIXYKCQRFDS", 0, letter);
     if line == LISTS {
         return first(lists, 0);
     }
@@ -185,7 +186,8 @@ pub(crate) fn show_said(
 ) -> usize {
     let record = said.record;
     let behind_why = number(out, at, said.why);
-    let behind_number = show(out, behind_why, of_number, none().and(said.number));
+    let behind_offset = named(out, behind_why, b" offset=", said.offset);
+    let behind_number = show(out, behind_offset, of_number, none().and(said.number));
     show(out, behind_number, of_record, record)
 }
 

@@ -1,5 +1,6 @@
-// The header of a frame, its tail, its stamps, and the numbers of refusals.
+// The header of a frame, its tail, its stamps and its offsets, and refusals.
 use crate::calls;
+use crate::items::item_at;
 use crate::numbers::Numbers;
 use crate::numbers::Said;
 use crate::numbers::byte_at;
@@ -9,9 +10,12 @@ use crate::numbers::number_at;
 use crate::numbers::one;
 use crate::numbers::refused;
 use crate::numbers::size_at;
+use crate::output::named;
 use crate::output::named_hex;
+use crate::output::text;
 use crate::words::first;
 use action_frame::AWDLActionFrame;
+use action_frame::InFrame;
 use action_frame::PhyTxTime;
 use action_frame::ReadFrame;
 use action_frame::TargetTxTime;
@@ -47,9 +51,9 @@ fn tx_delta(phy: u32, target: u32) -> Said {
     one(action_frame::tx_delta(PhyTxTime(phy), TargetTxTime(target)) as u64)
 }
 
-fn refusal_of(n: u64) -> Refusal {
+fn refusal_of(n: u64, offset: usize) -> Refusal {
     match n {
-        0 => Refusal::Short,
+        0 => Refusal::Short(offset),
         1 => Refusal::NotAction,
         2 => Refusal::NotVersion,
         3 => Refusal::UnicastLength,
@@ -63,12 +67,19 @@ fn refusal_of(n: u64) -> Refusal {
 
 pub(crate) fn answer(call: usize, v: &[u64; 32], bytes: &[u8]) -> Said {
     match call {
-        calls::REFUSAL_NUMBER => one(refusal_of(number_at(v, 0)).number() as u64),
+        calls::REFUSAL => refused(refusal_of(number_at(v, 0), size_at(v, 1))),
         calls::FRAME_READ => read(bytes),
         _ => tx_delta(long_at(v, 0), long_at(v, 1)),
     }
 }
 
 pub(crate) fn tail(frame: &[u8], out: &mut [u8], at: usize) -> usize {
-    named_hex(out, at, b"0 tail=", AWDLActionFrame::tail(frame))
+    named_hex(out, at, b"0 offset=0 tail=", AWDLActionFrame::tail(frame))
+}
+
+pub(crate) fn offset_in_frame(frame: &[u8], v: &[u64; 32], out: &mut [u8], at: usize) -> usize {
+    match AWDLActionFrame::offset_in_frame(frame, item_at(v, 1), size_at(v, 4)) {
+        InFrame::At(n) => named(out, at, b"0 offset=0 in_frame=", n as u64),
+        InFrame::Nothing => text(out, at, b"0 offset=0 nothing"),
+    }
 }

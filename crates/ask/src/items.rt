@@ -1,5 +1,6 @@
 // The walk over a tail, its items and their values, and the searches for records.
 ghost use mathlib.Core.Path.{_≡_};
+ghost use Prim.Native.Nat.{_≤_};
 ghost use Rattle.ask.specs.Ahead.{placeFound, Ahead};
 ghost use Rattle.wire.specs.Parts.{partAt};
 ghost use Rattle.tlv_items.specs.Items.{stepAt, valueAt, valueStartAt};
@@ -38,7 +39,7 @@ fn show_step(out: &mut [u8], at: usize, step: Step) -> usize {
 }
 
 pub(crate) fn step(tail: &[u8], place: usize, out: &mut [u8], at: usize) -> usize {
-    let behind_why = text(out, at, b"0");
+    let behind_why = text(out, at, b"0 offset=0");
     show_step(out, behind_why, tlvs::step(tail, place))
 }
 
@@ -79,7 +80,7 @@ fn valued_value(tail: &[u8], at: usize) -> &[u8]
 }
 
 pub(crate) fn reader_next(tail: &[u8], place: usize, out: &mut [u8], at: usize) -> usize {
-    let behind_why = text(out, at, b"0");
+    let behind_why = text(out, at, b"0 offset=0");
     show_both(
         reader_step(tail, place),
         reader_value(tail, place),
@@ -89,7 +90,7 @@ pub(crate) fn reader_next(tail: &[u8], place: usize, out: &mut [u8], at: usize) 
 }
 
 pub(crate) fn step_with_value(tail: &[u8], place: usize, out: &mut [u8], at: usize) -> usize {
-    let behind_why = text(out, at, b"0");
+    let behind_why = text(out, at, b"0 offset=0");
     show_both(
         valued_step(tail, place),
         valued_value(tail, place),
@@ -98,20 +99,31 @@ pub(crate) fn step_with_value(tail: &[u8], place: usize, out: &mut [u8], at: usi
     )
 }
 
+// The item whose numbers stand from a place on.
+pub(crate) fn item_at(v: &[u64; 32], from: usize) -> Item
+    requires { ⌜ from ≤ 2 ⌝ }
+{
+    Item {
+        at: size_at(v, from),
+        tlv_type: byte_at(v, from + 1),
+        length: size_at(v, from + 2),
+    }
+}
+
 pub(crate) fn value(tail: &[u8], v: &[u64; 32], out: &mut [u8], at: usize) -> usize {
-    let item = Item {
-        at: size_at(v, 1),
-        tlv_type: byte_at(v, 2),
-        length: size_at(v, 3),
-    };
-    named_hex(out, at, b"0 value=", tlvs::value(tail, item))
+    named_hex(
+        out,
+        at,
+        b"0 offset=0 value=",
+        tlvs::value(tail, item_at(v, 1)),
+    )
 }
 
 pub(crate) fn end(tail: &[u8], out: &mut [u8], at: usize) -> usize {
     match tlvs::end(tail) {
-        End::Whole(items) => named(out, at, b"0 whole items=", items as u64),
+        End::Whole(items) => named(out, at, b"0 offset=0 whole items=", items as u64),
         End::Cut(place, items) => {
-            let behind_place = named(out, at, b"0 cut at=", place as u64);
+            let behind_place = named(out, at, b"0 offset=0 cut at=", place as u64);
             named(out, behind_place, b" items=", items as u64)
         }
     }
@@ -119,7 +131,7 @@ pub(crate) fn end(tail: &[u8], out: &mut [u8], at: usize) -> usize {
 
 // Each turn shows what stands at the place; the walk ends where that is no item.
 pub(crate) fn walk(tail: &[u8], out: &mut [u8], at: usize) -> usize {
-    let mut behind = text(out, at, b"0");
+    let mut behind = text(out, at, b"0 offset=0");
     let mut place = 0;
     let mut items = 0u64;
     loop {
@@ -256,7 +268,7 @@ pub(crate) fn search(
     out: &mut [u8],
     at: usize,
 ) -> usize {
-    let behind_why = text(out, at, b"0");
+    let behind_why = text(out, at, b"0 offset=0");
     show_looked(record, look(call, record, tail, place), out, behind_why)
 }
 
@@ -274,7 +286,7 @@ fn next_record(record: u8, tail: &[u8], place: usize) -> Looked
 }
 
 pub(crate) fn all(record: u8, tail: &[u8], out: &mut [u8], at: usize) -> usize {
-    let mut behind = text(out, at, b"0");
+    let mut behind = text(out, at, b"0 offset=0");
     let mut place = 0;
     let mut records = 0u64;
     loop {

@@ -1,8 +1,8 @@
 // The lines of a frame's report, one at a time and all of them.
 use crate::fields::mark_list;
 use crate::fields::show;
+use crate::items::item_at;
 use crate::numbers::Numbers;
-use crate::numbers::byte_at;
 use crate::numbers::none;
 use crate::numbers::number_at;
 use crate::numbers::size_at;
@@ -14,21 +14,13 @@ use report::Line;
 use report::Mark;
 use tlvs::Item;
 
-fn item_of(v: &[u64; 32]) -> Item {
-    Item {
-        at: size_at(v, 2),
-        tlv_type: byte_at(v, 3),
-        length: size_at(v, 4),
-    }
-}
-
 fn mark_of(v: &[u64; 32]) -> Mark {
     match number_at(v, 1) {
         0 => Mark::TooLong,
         1 => Mark::Frame,
         2 => Mark::Item(size_at(v, 2), size_at(v, 3)),
-        3 => Mark::DataPath(item_of(v), size_at(v, 5), size_at(v, 6)),
-        4 => Mark::Synchronization(item_of(v), size_at(v, 5), size_at(v, 6)),
+        3 => Mark::DataPath(item_at(v, 2), size_at(v, 5), size_at(v, 6)),
+        4 => Mark::Synchronization(item_at(v, 2), size_at(v, 5), size_at(v, 6)),
         _ => Mark::End,
     }
 }
@@ -69,17 +61,17 @@ fn show_mark(out: &mut [u8], at: usize, mark: Mark) -> usize {
 }
 
 pub(crate) fn dump_start(input: &[u8], out: &mut [u8], at: usize) -> usize {
-    let behind_why = text(out, at, b"0");
+    let behind_why = text(out, at, b"0 offset=0");
     show_mark(out, behind_why, report::dump_start(input))
 }
 
 fn show_line(line: Line, out: &mut [u8], at: usize) -> usize {
     match line {
         Line::Text(n, mark) => {
-            let behind_length = named(out, at, b"0 line length=", n as u64);
+            let behind_length = named(out, at, b"0 offset=0 line length=", n as u64);
             show_mark(out, behind_length, mark)
         }
-        Line::Nothing => text(out, at, b"0 nothing"),
+        Line::Nothing => text(out, at, b"0 offset=0 nothing"),
     }
 }
 
@@ -117,7 +109,7 @@ fn show_text(buf: &[u8; 128], n: usize, out: &mut [u8], at: usize) -> usize {
 
 pub(crate) fn lines(frame: &[u8], start: Mark, out: &mut [u8], at: usize) -> usize {
     let mut buf = [0u8; 128];
-    let mut behind = text(out, at, b"0");
+    let mut behind = text(out, at, b"0 offset=0");
     let mut mark = start;
     let mut count = 0u64;
     loop {

@@ -115,9 +115,10 @@ pub(crate) fn long_at(v: &[u64; 32], i: usize) -> u32 {
     long(number_at(v, i))
 }
 
-// What a call answers: the refusal's number, or 0; a number; and the fields of a record.
+// What a call answers: the refusal's number and its offset, or 0 for each; a number; and the fields of a record.
 pub(crate) struct Said {
     pub(crate) why: u64,
+    pub(crate) offset: u64,
     pub(crate) number: u64,
     pub(crate) record: Numbers,
 }
@@ -127,6 +128,7 @@ impl Said {
     pub(crate) fn with(self, record: Numbers) -> Said {
         Said {
             why: self.why,
+            offset: self.offset,
             number: self.number,
             record,
         }
@@ -136,6 +138,7 @@ impl Said {
 pub(crate) fn one(number: u64) -> Said {
     Said {
         why: 0,
+        offset: 0,
         number,
         record: none(),
     }
@@ -151,6 +154,7 @@ pub(crate) fn yes_or_no(answer: bool) -> Said {
 pub(crate) fn refused(why: Refusal) -> Said {
     Said {
         why: why.number() as u64,
+        offset: why.offset() as u64,
         number: 0,
         record: none(),
     }

@@ -131,7 +131,7 @@ pub(crate) fn answer(call: usize, v: &[u64; 32], given: &[u8]) -> Said {
 
 pub(crate) fn head(v: &[u64; 32], given: &[u8], out: &mut [u8], at: usize) -> usize {
     let head = record_of(v, 0, given).head();
-    named_hex(out, at, b"0 head=", &head)
+    named_hex(out, at, b"0 offset=0 head=", &head)
 }
 
 fn show_entry(entry: Entry, out: &mut [u8], at: usize) -> usize {
@@ -143,7 +143,7 @@ fn show_entry(entry: Entry, out: &mut [u8], at: usize) -> usize {
             b'C',
             one(0).with(channels::numbers_of(channel)),
         ),
-        Entry::Nothing => text(out, at, b"0 nothing"),
+        Entry::Nothing => text(out, at, b"0 offset=0 nothing"),
         Entry::Refused(why) => show_said(out, at, b'-', b'C', refused(why)),
     }
 }

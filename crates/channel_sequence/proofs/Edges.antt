@@ -7,8 +7,8 @@ use Rattle.wire.specs.Reading.{refused}
 use Rattle.channel_sequence.specs.Channels.{encodingOf}
 use Rattle.channel_sequence.specs.SequenceTLVReader.{channelSequence}
 
--- five bytes with a wrong count
-pub short-and-count : channelSequence (14 ∷ 2 ∷ 0 ∷ 0 ∷ 0 ∷ []) 0 ≡ refused Short
+-- five bytes with a wrong count: the fill channel is short
+pub short-and-count : channelSequence (14 ∷ 2 ∷ 0 ∷ 0 ∷ 0 ∷ []) 0 ≡ refused (Short 4)
 unfolding channelSequence encodingOf
 short-and-count = refl
 

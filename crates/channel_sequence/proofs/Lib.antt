@@ -5,6 +5,7 @@ pub mod Beside
 pub mod RoundTrip
 pub mod ReadConsistent
 pub mod SequenceTLVs
+pub mod Laid
 pub mod Again
 pub mod ReadSequenceTLVs
 pub mod Edges

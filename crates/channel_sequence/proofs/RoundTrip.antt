@@ -11,9 +11,10 @@ use lib.ListN.{length, take, drop, replicate, length-drop, take-append-drop}
 use lib.Seq.{length-take-le, take-all, drop-append-seam}
 use borrow.Author.Tests.{le-leb, eqb-true}
 use Rattle.wire.specs.Reading.{read}
-use Rattle.wire.specs.Answer.{Answer, answer, refusal}
+use Rattle.wire.specs.declared.refusal.Refusal.the-variants.{Encoding}
+use Rattle.wire.specs.Answer.{Answer, answer, refusal, asked}
 use Rattle.wire.specs.Writing.{within, lengthOf, afterwards}
-use Rattle.wire.proofs.Lawful.{Lawful, bind-lawful, asked-lawful, made-lawful, field-lawful}
+use Rattle.wire.proofs.Lawful.{Lawful, give-lawful, refuse-lawful, bind-lawful, asked-lawful, made-lawful, field-lawful}
 use Rattle.wire.proofs.Tests.{both}
 use Rattle.wire.proofs.ReadsBack.{Back, bind-back, asked-back, made-back, field-back}
 use Rattle.channel_sequence.specs.declared.channel.ChannelEncoding.{ChannelEncoding}
@@ -82,5 +83,12 @@ written-back q s w h =
       rw (w .written, room) (drop-append-seam (w .bytes) rest),
     )
 
+pub encoding-lawful : (n : ℕ) → Lawful (asked (encodingOf n))
+unfolding encodingOf
+encoding-lawful n =
+    asked-lawful (eqb n 0) _ _ (give-lawful Simple)
+    (asked-lawful (eqb n 1) _ _ (give-lawful Legacy)
+    (asked-lawful (eqb n 3) _ _ (give-lawful OpClass) (refuse-lawful Encoding (λ e. omega arith))))
+
 pub sequence-lawful : (n : ℕ) → Lawful (sequence n)
-sequence-lawful n = bind-lawful (asked-lawful (encodingOf n)) (λ encoding. made-lawful _ (field-lawful (16 * entrySize encoding)))
+sequence-lawful n = bind-lawful (encoding-lawful n) (λ encoding. made-lawful _ (field-lawful (16 * entrySize encoding)))

@@ -6,19 +6,20 @@ use native.Mathlib.Decide.{decLe}
 use mathlib.Core.Logic.{dite, _⊎_, inl, inr}
 use mathlib.Core.Path.{_≡_, refl, sym, ap, _∙_}
 use mathlib.Core.Bool.{Bool, true, false}
-use mathlib.Core.List.{List, [], _∷_, _++_}
-use lib.Dec.{eqb, leb, lit<}
-use lib.ListN.{length, getD, take, length-append}
-use borrow.Author.Tests.{leb-false, eqb-true, eq-eqb}
+use mathlib.Core.List.{List, _++_}
+use lib.Dec.{eqb, lit<}
+use lib.ListN.{length, getD, take, drop, length-append}
+use borrow.Author.Tests.{eqb-true, eq-eqb}
 use Rattle.wire.specs.declared.refusal.Refusal.{Refusal}
 use Rattle.wire.specs.declared.refusal.Refusal.the-variants.{Short, ChannelCount}
 use Rattle.wire.specs.Reading.{Reader, read, refused, give, field, onward, _>>=_}
-use Rattle.wire.specs.Answer.{answer, refusal, require, placeOf}
+use Rattle.wire.specs.ShortFields.{firstShort}
+use Rattle.wire.specs.Answer.{answer, refusal, placeOf}
 use Rattle.wire.specs.Numbers.{AllInWidth, number}
 use Rattle.wire.specs.Writing.{lengthOf}
-use Rattle.wire.proofs.Bytes.{number-whole}
+use Rattle.wire.proofs.Bytes.{number-whole, unplaced}
 use Rattle.wire.proofs.Stores.{size-behind, length-behind}
-use Rattle.wire.proofs.Lawful.{Lawful, never, steps, bind-lawful, asked-lawful, give-lawful}
+use Rattle.wire.proofs.Lawful.{Lawful, never, steps, field-refused, bind-lawful, require-lawful, give-lawful}
 use Rattle.wire.proofs.Fixed.{past-short, Begins, begins-any, begins-number}
 use Rattle.wire.proofs.Octets.{Octets, octets-append, octets-take, octets-little}
 use Rattle.wire.proofs.ReadsBack.{Back, bind-back, asked-back, made-back, number-back, number-on}
@@ -31,32 +32,28 @@ use Rattle.channel_sequence.specs.Sequences as Q
 use Rattle.channel_sequence.specs.SequenceReader.{sequence}
 use Rattle.channel_sequence.specs.SequenceTLVs.{consistent, sizeOf, headBytes, bytesOf, numbers}
 use Rattle.channel_sequence.specs.SequenceTLVReader.{channelSequence}
+use Rattle.channel_sequence.specs.FieldWidths.{headWidths}
 use Rattle.channel_sequence.proofs.Entries.{sequence-sized, size-most, wire-bytes}
 use Rattle.channel_sequence.proofs.Entries.{size-length as sequence-length}
 use Rattle.channel_sequence.proofs.RoundTrip as Q′
 use Rattle.channel_sequence.proofs.RoundTrip.{sequence-lawful}
 
-begins : Begins channelSequence (1 ∷ 1 ∷ 1 ∷ 1 ∷ 2 ∷ [])
+pub channel-sequence-begins : Begins channelSequence headWidths
 unfolding channelSequence
-begins =
+channel-sequence-begins =
     begins-number 1 λ count. begins-number 1 λ encoding. begins-number 1 λ _. begins-number 1 λ _. begins-number 2 λ _.
-    begins-any (bind-lawful (asked-lawful (require (eqb count 15) ChannelCount)) λ _. bind-lawful (sequence-lawful encoding) λ q. give-lawful _)
+    begins-any (bind-lawful (require-lawful (eqb count 15) ChannelCount (λ e. omega arith)) λ _. bind-lawful (sequence-lawful encoding) λ q. give-lawful _)
 
 pub channel-sequence-lawful : Lawful channelSequence
-channel-sequence-lawful = begins .lawful
+channel-sequence-lawful = channel-sequence-begins .lawful
 
--- where one of the six bytes is missing, the value is short
-pub head-short : (s : List ℕ) (at : ℕ) → length s < at + 6 → channelSequence s at ≡ refused Short
-head-short s at h = begins .refuses s at Short (past-short 1 (1 ∷ 1 ∷ 1 ∷ 2 ∷ []) s at h)
+-- where one of the six bytes is missing, the value is short at the first field that does not fit
+pub head-short : (s : List ℕ) (at : ℕ) → length s < at + 6 → channelSequence s at ≡ refused (Short (firstShort headWidths s at))
+head-short s at h = channel-sequence-begins .refuses s at _ (past-short 1 (drop 1 headWidths) s at h)
 
-pub head-refused : (s : List ℕ) (at : ℕ) {why : Refusal} → refusal why ≡ placeOf (field 6 s at) → channelSequence s at ≡ refused why
-head-refused s at {why} e = go (leb (at + 6) (length s)) refl
-  where
-    go : (b : Bool) → leb (at + 6) (length s) ≡ b → channelSequence s at ≡ refused why
-    go true q = absurd (let e′ = rw q at e in let z : _≡_ {A = ℕ} 0 1 = cc in omega arith)
-    go false q =
-        let same : Short ≡ why = let e′ = rw q at e in cc in
-        rw (← same) (head-short s at (leb-false (at + 6) (length s) q))
+pub head-refused : (s : List ℕ) (at : ℕ) {why : Refusal} → refusal why ≡ placeOf (field 6 s at)
+    → channelSequence s at ≡ refused (Short (firstShort headWidths s at))
+head-refused s at e = head-short s at (field-refused 6 s at (unplaced (field 6 s at) e) .0)
 
 -- a record of the bytes at a place, and a sequence
 abbrev pub headedBy : List ℕ → ℕ → ChannelSequence → ChannelSequenceTLV

@@ -1,4 +1,4 @@
--- The number and the values that each answer stands for.
+-- The number, the offset and the values that each answer stands for.
 use Prim.Native.Nat.{ℕ}
 use mathlib.Core.Bool.{Bool, false}
 use Rattle.wire.specs.Answer.{Answer, answer, refusal}

@@ -1,5 +1,4 @@
 ghost use mathlib.Core.Path.{_≡_};
-ghost use mathlib.Core.List.{_++_};
 ghost use Prim.Native.Nat.{_+_, _≤_};
 ghost use lib.ListN.{length, getD};
 ghost use Rattle.wire.specs.Reading as Reading;
@@ -32,6 +31,9 @@ pub struct ReadChannelSequence {
 // What stands in front of the entries.
 const HEAD_SIZE: usize = 6;
 
+// How many of these six bytes each field takes.
+const HEAD_WIDTHS: [u8; 5] = [1, 1, 1, 1, 2];
+
 // The number of entries less one, as it stands on the wire.
 const COUNT: u8 = 15;
 
@@ -52,7 +54,11 @@ impl ChannelSequenceTLV {
                 }
                 read_entries(s, at, entries)
             }
-            Place::Refused(why) => refused(why),
+            // Only where the six bytes are not all there, the field that is short is looked for.
+            Place::Refused(_) => {
+                let widths = HEAD_WIDTHS;
+                refused(Refusal::Short(wire::first_short(s, at, &widths)))
+            }
         }
     }
 

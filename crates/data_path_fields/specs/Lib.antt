@@ -1,5 +1,5 @@
 -- Words: tested and kept bits, and the channel word; Fields: how the fields are read; Said and Outcomes: what each
--- answer of the code says, and the number and values that it stands for.
+-- answer of the code says, and the number, offset and values that it stands for.
 pub mod Words
 pub mod Fields
 pub mod Said

@@ -1,4 +1,4 @@
--- The number and the values that each answer stands for.
+-- The number, the offset and the values that each answer stands for.
 use Prim.Native.Nat.{ℕ}
 use Rattle.wire.specs.Outcomes.{Outcome, outcome}
 use Rattle.data_path_fields.specs.declared.read.Head.{Head}

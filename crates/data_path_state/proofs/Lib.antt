@@ -4,6 +4,7 @@ pub mod Right
 pub mod Sizes
 pub mod RoundTrip
 pub mod Values
+pub mod Laid
 pub mod ReadConsistent
 pub mod FromBytes
 pub mod Facts

@@ -1,23 +1,19 @@
--- The reader of the record keeps the laws of every reader, since each of its lines does: so bytes behind a value change nothing, and a cut value is short.
+-- The reader of the record keeps the laws of every reader, since each of its lines does.
 -- Assumes nothing.
-use Prim.Native.Nat.{ℕ, _<_}
-use mathlib.Core.Path.{_≡_}
+use Prim.Native.Nat.{ℕ}
+use native.Mathlib.Omega.{arith}
 use mathlib.Core.Bool.{Bool, true, false}
-use mathlib.Core.List.{List, _++_}
 use lib.Dec.{eqb}
-use lib.ListN.{take}
-use Rattle.wire.specs.declared.refusal.Refusal.the-variants.{Short, UnicastLength}
-use Rattle.wire.specs.Reading.{read, refused}
+use Rattle.wire.specs.declared.refusal.Refusal.the-variants.{UnicastLength}
 use Rattle.wire.specs.Numbers.{bit}
 use Rattle.wire.specs.Words.{wordBy}
-use Rattle.wire.proofs.Lawful.{Lawful, bind-lawful, give-lawful, refuse-lawful, when-lawful, cond-lawful, made-lawful, field-lawful, number-lawful, address-lawful, grown, cut-short}
-use Rattle.data_path_state.specs.declared.data_path_state_tlv.DataPathStateTLV.{DataPathStateTLV}
+use Rattle.wire.proofs.Lawful.{Lawful, bind-lawful, give-lawful, refuse-lawful, when-lawful, cond-lawful, made-lawful, field-lawful, number-lawful, address-lawful}
 use Rattle.data_path_fields.specs.Words.{extendedKept}
 use Rattle.data_path_fields.specs.Fields.{noCountry, noChannel, head, noInfra, infra, noAddress, oneAddress, addresses, noUnicast, noWord, oneWord, optionsAnd, unicast}
 use Rattle.data_path_fields.specs.Fields.{noTriggerId, noStats, stats, noExtended, extended, body}
 use Rattle.data_path_state.specs.DataPath.{dataPath}
 
-head-lawful : Lawful head
+pub head-lawful : Lawful head
 head-lawful =
     bind-lawful (number-lawful 2) λ flags.
     bind-lawful (when-lawful (bit 8 flags) noCountry (made-lawful _ (field-lawful 3))) λ country.
@@ -46,7 +42,7 @@ options-lawful second =
 unicast-lawful : Lawful unicast
 unicast-lawful =
     bind-lawful (number-lawful 2) λ length.
-    cond-lawful (eqb length 4) (options-lawful false) (cond-lawful (eqb length 8) (options-lawful true) (refuse-lawful UnicastLength))
+    cond-lawful (eqb length 4) (options-lawful false) (cond-lawful (eqb length 8) (options-lawful true) (refuse-lawful UnicastLength (λ e. omega arith)))
 
 stats-lawful : Lawful stats
 stats-lawful =
@@ -59,7 +55,7 @@ extended-lawful =
     bind-lawful (when-lawful (bit 2 (wordBy extendedKept word)) noWord one-word-lawful) λ rlfc.
     bind-lawful (when-lawful (bit 5 (wordBy extendedKept word)) noStats stats-lawful) λ stats. give-lawful _
 
-body-lawful : (flags : ℕ) → Lawful (body flags)
+pub body-lawful : (flags : ℕ) → Lawful (body flags)
 body-lawful flags =
     bind-lawful (addresses-lawful flags) λ addresses.
     bind-lawful (when-lawful (bit 12 flags) noUnicast unicast-lawful) λ unicast.
@@ -67,11 +63,3 @@ body-lawful flags =
 
 pub data-path-lawful : Lawful dataPath
 data-path-lawful = bind-lawful head-lawful λ h. bind-lawful (body-lawful (h .flags)) λ b. give-lawful _
-
--- bytes added behind an accepted value change neither record nor size
-pub grown-value : (s more : List ℕ) {r : DataPathStateTLV} {n : ℕ} → dataPath s 0 ≡ read r n → dataPath (s ++ more) 0 ≡ read r n
-grown-value = grown data-path-lawful
-
--- an accepted value cut below its size is short
-pub cut-value : (s : List ℕ) {r : DataPathStateTLV} {n k : ℕ} → dataPath s 0 ≡ read r n → k < n → dataPath (take k s) 0 ≡ refused Short
-cut-value = cut-short data-path-lawful

@@ -1,4 +1,4 @@
--- The number and the values that the reader's answer stands for.
+-- The number, the offset and the values that the reader's answer stands for.
 use Rattle.wire.specs.Outcomes.{Outcome, outcome}
 use Rattle.data_path_state.specs.declared.data_path_state_tlv.DataPathStateTLV.{DataPathStateTLV}
 use Rattle.data_path_state.specs.declared.data_path_state_tlv.ReadDataPathState.{ReadDataPathState}

@@ -1,27 +1,34 @@
--- A refusal is told by its number and leaves nothing behind: what an answer stands for is computed from what it says, and a buffer is touched only where nothing is refused.
+-- A refusal is told by its number and its offset and leaves nothing behind: it is computed from what an answer says, every reader is lawful, and only what is not refused touches a buffer.
 -- Assumes nothing.
 use mathlib.Core.Path.{refl, sym, _∙_}
 use mathlib.Core.Bool.{false}
 use Rattle.wire.specs.Addresses.{zeroAddress}
 use Rattle.wire.specs.Said.{saidU8, saidU16, saidU32, saidAddress, saidPlace, saidSize}
+use Rattle.wire.proofs.Lawful.{field-lawful, number-lawful, address-lawful, short-exactly}
 use Rattle.wire.proofs.Once.{onceU8, onceU16, onceU32, onceAddress, oncePlace, onceSize}
 use Rattle.text.proofs.Once.{onceDecimal, oncePutSaid, onceSame}
 use Rattle.channel_sequence.specs.declared.channel.ChannelEncoding.the-variants.{Simple}
 use Rattle.channel_sequence.specs.Hops.{hop, zeroChannel}
 use Rattle.channel_sequence.specs.Said.{saidEncoding, saidCorrected, saidConsistent, saidEntry}
+use Rattle.channel_sequence.proofs.RoundTrip.{sequence-lawful}
+use Rattle.channel_sequence.proofs.SequenceTLVs.{channel-sequence-lawful, head-short}
 use Rattle.channel_sequence.proofs.Once.{onceEncoding, onceCorrected, onceConsistent, onceEntry}
 use Rattle.data_path_fields.specs.Said.{saidHead, saidBody}
 use Rattle.data_path_fields.specs.Outcomes.{zeroHead, zeroBody}
 use Rattle.data_path_fields.proofs.Once.{onceHead, onceBody}
 use Rattle.data_path_state.specs.Said.{saidDataPath}
 use Rattle.data_path_state.specs.Outcomes.{zeroDataPath}
+use Rattle.data_path_state.proofs.Values.{head-lawful, body-lawful, data-path-lawful}
 use Rattle.data_path_state.proofs.Once.{onceDataPath}
+use Rattle.synchronization_parameters.proofs.Whole.{synchronization-lawful, front-short}
 use Rattle.tlv_items.proofs.Once.{onceEnd}
 use Rattle.tlvs.proofs.Once.{onceFoundDataPath}
 use Rattle.action_frame.specs.Frames.{zeroFrame}
 use Rattle.action_frame.specs.Said.{saidFrame}
+use Rattle.action_frame.proofs.RoundTrip.{header-lawful}
 use Rattle.action_frame.proofs.Once.{onceFrame}
-use Rattle.promises.proofs.Refusing.{number-range, numbers-apart, reader-answers, call-answers, refused-buffer, short-buffer}
+use Rattle.promises.proofs.InFrames.{short-in-frame}
+use Rattle.promises.proofs.Refusing.{number-range, numbers-apart, reader-offset, call-offset, reader-answers, call-answers, refused-buffer, short-buffer}
 use Rattle.promises.specs.Demand1.{Demand1}
 
 pub demand1 : Demand1
@@ -29,6 +36,23 @@ demand1 =
     record {
       numbers = number-range;
       apart = numbers-apart;
+      reader-offsets = reader-offset;
+      call-offsets = call-offset;
+      field-offset = λ n. short-exactly (field-lawful n);
+      number-offset = λ width. short-exactly (number-lawful width);
+      address-offset = short-exactly address-lawful;
+      sequence-offset = λ encoding. short-exactly (sequence-lawful encoding);
+      head-offset = short-exactly head-lawful;
+      body-offset = λ flags. short-exactly (body-lawful flags);
+      data-path-offset = short-exactly data-path-lawful;
+      synchronization-offset = short-exactly synchronization-lawful;
+      channel-sequence-offset = short-exactly channel-sequence-lawful;
+      header-offset = short-exactly header-lawful;
+      channel-sequence-front = head-short;
+      synchronization-front = front-short;
+      data-path-in-frame = short-in-frame data-path-lawful;
+      synchronization-in-frame = short-in-frame synchronization-lawful;
+      channel-sequence-in-frame = short-in-frame channel-sequence-lawful;
       u8 = λ at. reader-answers saidU8 0 at (λ a b e. onceU8 e refl);
       u16 = λ at. reader-answers saidU16 0 at (λ a b e. onceU16 e refl);
       u32 = λ at. reader-answers saidU32 0 at (λ a b e. onceU32 e refl);

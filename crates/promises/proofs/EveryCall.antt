@@ -4,8 +4,9 @@ use mathlib.Core.Path.{_≡_}
 use denote.Ref.{now}
 use Prim.Native.Nat.{_+_, _*_, min}
 use lib.ListN.{length, replicate}
-use Rattle.wire.specs.Refusals.{numberOf}
+use Rattle.wire.specs.Refusals.{numberOf, offsetOf}
 use Rattle.wire.specs.Reading.{field}
+use Rattle.wire.specs.ShortFields.{firstShort}
 use Rattle.wire.specs.Answer.{answer, placeOf}
 use Rattle.wire.specs.Numbers.{number, littleBytes}
 use Rattle.wire.specs.Words.{wordBy}
@@ -43,6 +44,7 @@ use Rattle.tlv_items.specs.Said.{saidEnd}
 use Rattle.tlvs.specs.Said.{saidFoundDataPath, synchronizationFound, channelSequenceFound}
 use Rattle.action_frame.specs.Frames as F
 use Rattle.action_frame.specs.Frames.{header, tailOf}
+use Rattle.action_frame.specs.Offsets.{offsetInFrame}
 use Rattle.action_frame.specs.Stamps.{delta}
 use Rattle.action_frame.specs.Said.{saidFrame}
 use Rattle.report.specs.Marks.{firstMark, standsAt}
@@ -84,6 +86,8 @@ pub record EveryCall : Type 2 where
       (λ κs a r e. saidAddress r ≡ address (now (a .0)) (a .1 .0))
   pub field-at : Call wire.field_at.Symbol.routine wire.field_at.ended
       (λ κs a r e. saidPlace r ≡ placeOf (field (a .1 .1 .0) (now (a .0)) (a .1 .0)))
+  pub first-short : Call wire.first_short.Symbol.routine wire.first_short.ended
+      (λ κs a r e. r ≡ firstShort (now (a .1 .1 .0)) (now (a .0)) (a .1 .0))
   pub u16-bytes : Call wire.u16_bytes.Symbol.routine wire.u16_bytes.ended
       (λ κs a r e. r ≡ littleBytes 2 (a .0))
   pub u32-bytes : Call wire.u32_bytes.Symbol.routine wire.u32_bytes.ended
@@ -102,6 +106,8 @@ pub record EveryCall : Type 2 where
       (λ κs a r e. saidSize r ≡ within (a .0) (saidSize (a .1 .0)))
   pub refusal-number : Call refusals.number.Symbol.routine refusals.number.ended
       (λ κs a r e. r ≡ numberOf (a .0))
+  pub refusal-offset : Call refusals.offset.Symbol.routine refusals.offset.ended
+      (λ κs a r e. r ≡ offsetOf (a .0))
   -- text: decimal and hex, put down and taken from a word
   pub text-put-decimal : Call text.put_decimal.Symbol.routine text.put_decimal.ended
       (λ κs a r e. Put (now (a .0)) (a .1 .0) (decimal (a .1 .1 .0)) r (now (e .0)))
@@ -225,11 +231,13 @@ pub record EveryCall : Type 2 where
       (λ κs a r e. r ≡ synchronizationFound (nextSynchronization (now (a .0 .bytes)) (a .0 .at)))
   pub read-tlvs-first-channel-sequence : Call readers.first_channel_sequence.Symbol.routine readers.first_channel_sequence.ended
       (λ κs a r e. r ≡ channelSequenceFound (nextChannelSequence (now (a .0 .bytes)) (a .0 .at)))
-  -- frames: the header, the tail, the writer; the gap between the stamps
+  -- frames: the header, the tail, offsets in the frame, the writer; the gap between the stamps
   pub frame-read : Call frames.read.Symbol.routine frames.read.ended
       (λ κs a r e. saidFrame r ≡ header (now (a .0)) 0)
   pub frame-tail : Call frames.tail.Symbol.routine frames.tail.ended
       (λ κs a r e. (now r ≡ tailOf (now (a .0))) × (r .ptr ≡ partAt (min 12 (length (now (a .0)))) (a .0 .ptr)))
+  pub offset-in-frame : Call frames.offset_in_frame.Symbol.routine frames.offset_in_frame.ended
+      (λ κs a r e. r ≡ offsetInFrame (now (a .0)) (a .1 .0) (a .1 .1 .0))
   pub frame-write : Call frames.write.Symbol.routine frames.write.ended
       (λ κs a r e. Wrote (now (a .1 .1 .0)) (answer (F.bytesOf (a .0) (now (a .1 .0)))) (saidSize r) (now (e .1 .1 .0)))
   pub tx-delta : Call stamps.tx_delta.Symbol.routine stamps.tx_delta.ended
@@ -249,6 +257,7 @@ every-call =
       u32-at = λ M. wire.u32_at.Met.met;
       address-at = λ M. wire.address_at.Met.met;
       field-at = λ M. wire.field_at.Met.met;
+      first-short = λ M. wire.first_short.Met.met;
       u16-bytes = λ M. wire.u16_bytes.Met.met;
       u32-bytes = λ M. wire.u32_bytes.Met.met;
       put-u8 = λ M. wire.put_u8.Met.met;
@@ -258,6 +267,7 @@ every-call =
       put-slice = λ M. wire.put_slice.Met.met;
       within = λ M. wire.within.Met.met;
       refusal-number = λ M. refusals.number.Met.met;
+      refusal-offset = λ M. refusals.offset.Met.met;
       text-put-decimal = λ M. text.put_decimal.Met.met;
       text-put-hex = λ M. text.put_hex.Met.met;
       text-decimal-of = λ M. text.decimal_of.Met.met;
@@ -318,6 +328,7 @@ every-call =
       read-tlvs-first-channel-sequence = λ M. readers.first_channel_sequence.Met.met;
       frame-read = λ M. frames.read.Met.met;
       frame-tail = λ M. frames.tail.Met.met;
+      offset-in-frame = λ M. frames.offset_in_frame.Met.met;
       frame-write = λ M. frames.write.Met.met;
       tx-delta = λ M. stamps.tx_delta.Met.met;
       report-dump-start = λ M. report.dump_start.Met.met;

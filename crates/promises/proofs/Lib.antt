@@ -6,6 +6,7 @@ pub mod LaterFrames
 pub mod Demand3
 pub mod EveryCall
 pub mod Refusing
+pub mod InFrames
 pub mod Demand1
 pub mod RoundTrips
 pub mod Demand2

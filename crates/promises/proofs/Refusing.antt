@@ -9,8 +9,8 @@ use mathlib.Core.Logic.{_⊎_, inl, inr}
 use lib.Dec.{eqb}
 use Rattle.wire.specs.declared.refusal.Refusal.{Refusal}
 use Rattle.wire.specs.declared.refusal.Refusal.the-variants.{Short, NotAction, NotVersion, UnicastLength, Encoding, NoRoom, Inconsistent, TooLong, ChannelCount}
-use Rattle.wire.specs.Refusals.{numberOf}
-use Rattle.wire.specs.Reading.{Reading, refused}
+use Rattle.wire.specs.Refusals.{numberOf, offsetOf}
+use Rattle.wire.specs.Reading.{Reading, read, refused}
 use Rattle.wire.specs.Answer.{Answer, answer, refusal}
 use Rattle.wire.specs.Outcomes.{outcome, result}
 use Rattle.wire.specs.Writing.{fits, Put, afterwards, Wrote}
@@ -18,7 +18,7 @@ use Rattle.wire.proofs.Once.{only-one}
 use Rattle.promises.specs.Answers.{refusedOutcome, refusedResult, Once, Answering}
 
 pub number-range : (why : Refusal) → ((1 ≤ numberOf why) × (numberOf why ≤ 8)) ⊎ (numberOf why ≡ 10)
-number-range Short = inl (omega arith)
+number-range (Short at) = inl (omega arith)
 number-range NotAction = inl (omega arith)
 number-range NotVersion = inl (omega arith)
 number-range UnicastLength = inl (omega arith)
@@ -28,10 +28,10 @@ number-range Inconsistent = inl (omega arith)
 number-range TooLong = inl (omega arith)
 number-range ChannelCount = inr refl
 
--- the refusal that has a number
-abbrev numbered : ℕ → Refusal
-numbered n =
-    cond (eqb n 1) Short
+-- the refusal that has a number and an offset
+abbrev numbered : ℕ × ℕ → Refusal
+numbered (n, at) =
+    cond (eqb n 1) (Short at)
     (cond (eqb n 2) NotAction
     (cond (eqb n 3) NotVersion
     (cond (eqb n 4) UnicastLength
@@ -40,11 +40,14 @@ numbered n =
     (cond (eqb n 7) Inconsistent
     (cond (eqb n 8) TooLong ChannelCount)))))))
 
-pub numbers-apart : (why other : Refusal) → numberOf why ≡ numberOf other → why ≡ other
-numbers-apart why other e = only-one numberOf numbered back e refl
+abbrev numberAndOffset : Refusal → ℕ × ℕ
+numberAndOffset why = (numberOf why, offsetOf why)
+
+pub numbers-apart : (why other : Refusal) → numberOf why ≡ numberOf other → offsetOf why ≡ offsetOf other → why ≡ other
+numbers-apart why other e f = only-one numberAndOffset numbered back (rw (e, f)) refl
   where
-    back : (w : Refusal) → numbered (numberOf w) ≡ w
-    back Short = refl
+    back : (w : Refusal) → numbered (numberAndOffset w) ≡ w
+    back (Short at) = refl
     back NotAction = refl
     back NotVersion = refl
     back UnicastLength = refl
@@ -53,6 +56,25 @@ numbers-apart why other e = only-one numberOf numbered back e refl
     back Inconsistent = refl
     back TooLong = refl
     back ChannelCount = refl
+
+no-offset : (why : Refusal) → ¬ (numberOf why ≡ 1) → offsetOf why ≡ 0
+no-offset (Short at) other = absurd (other refl)
+no-offset NotAction other = refl
+no-offset NotVersion other = refl
+no-offset UnicastLength other = refl
+no-offset Encoding other = refl
+no-offset NoRoom other = refl
+no-offset Inconsistent other = refl
+no-offset TooLong other = refl
+no-offset ChannelCount other = refl
+
+pub reader-offset : {A : Type 0} (nothing : A) (at : ℕ) (r : Reading A) → ¬ (outcome nothing at r .number ≡ 1) → outcome nothing at r .offset ≡ 0
+reader-offset nothing at (read a next) other = refl
+reader-offset nothing at (refused why) other = no-offset why other
+
+pub call-offset : {A : Type 0} (nothing : A) (a : Answer A) → ¬ (result nothing a .number ≡ 1) → result nothing a .offset ≡ 0
+call-offset nothing (answer a) other = refl
+call-offset nothing (refusal why) other = no-offset why other
 
 pub reader-answers : {T A : Type 0} (said : T → Reading A) (nothing : A) (at : ℕ) → Once said
     → Answering said refused (λ a. outcome nothing at (said a)) (refusedOutcome nothing)

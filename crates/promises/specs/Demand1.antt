@@ -1,47 +1,79 @@
 -- Demand 1: an answer for every input. That every public call ends with an answer, whatever it is given, is `EveryCall` in
 -- `proofs/`, since it names the code; this is what is said of refusals.
-use Prim.Native.Nat.{ℕ, _≤_}
+use Prim.Native.Nat.{ℕ, _+_, _≤_, _<_}
 use mathlib.Core.Path.{_≡_}
 use mathlib.Core.Bool.{Bool, false}
-use mathlib.Core.List.{List}
+use mathlib.Core.List.{List, _++_}
 use mathlib.Core.Logic.{_⊎_}
+use lib.ListN.{length}
 use Rattle.wire.specs.declared.refusal.Refusal.{Refusal}
-use Rattle.wire.specs.Refusals.{numberOf}
-use Rattle.wire.specs.Reading.{refused}
+use Rattle.wire.specs.declared.refusal.Refusal.the-variants.{Short}
+use Rattle.wire.specs.Refusals.{numberOf, offsetOf}
+use Rattle.wire.specs.Reading.{Reading, refused, field}
+use Rattle.wire.specs.ShortFields.{ShortExactly, firstShort}
+use Rattle.wire.specs.Numbers.{number}
 use Rattle.wire.specs.Answer.{Answer, refusal}
-use Rattle.wire.specs.Addresses.{zeroAddress}
+use Rattle.wire.specs.Addresses.{address, zeroAddress}
 use Rattle.wire.specs.Writing.{fits, Put, Wrote}
 use Rattle.wire.specs.Said.{saidU8, saidU16, saidU32, saidAddress, saidPlace, saidSize}
-use Rattle.wire.specs.Outcomes.{outcomeU8, outcomeU16, outcomeU32, outcomeAddress, resultPlace, resultSize}
+use Rattle.wire.specs.Outcomes.{outcome, result, outcomeU8, outcomeU16, outcomeU32, outcomeAddress, resultPlace, resultSize}
 use Rattle.text.specs.declared.hex.HexBytes.{HexBytes}
 use Rattle.text.specs.Words.{Said}
 use Rattle.text.specs.Said.{saidDecimal}
 use Rattle.text.specs.Into.{PutSaid, TellsSame}
 use Rattle.channel_sequence.specs.declared.channel.ChannelEncoding.the-variants.{Simple}
 use Rattle.channel_sequence.specs.Sequences.{zeroSequence}
+use Rattle.channel_sequence.specs.SequenceReader.{sequence}
 use Rattle.channel_sequence.specs.Hops.{hop, zeroChannel}
 use Rattle.channel_sequence.specs.SequenceTLVs.{zeroChannelSequence}
+use Rattle.channel_sequence.specs.SequenceTLVReader.{channelSequence}
+use Rattle.channel_sequence.specs.FieldWidths.{headWidths}
 use Rattle.channel_sequence.specs.Said.{saidEncoding, saidCorrected, saidConsistent, saidEntry, sequenceRead, sequenceFixed, channelSequenceRead}
 use Rattle.channel_sequence.specs.Outcomes.{resultEncoding, resultCorrected, resultConsistent, resultEntry, outcomeSequence, resultFixed, outcomeChannelSequence}
+use Rattle.data_path_fields.specs.Fields.{head, body}
 use Rattle.data_path_fields.specs.Said.{saidHead, saidBody}
 use Rattle.data_path_fields.specs.Outcomes.{zeroHead, zeroBody, outcomeHead, outcomeBody}
+use Rattle.data_path_state.specs.DataPath.{dataPath}
 use Rattle.data_path_state.specs.Said.{saidDataPath}
 use Rattle.data_path_state.specs.Outcomes.{zeroDataPath, outcomeDataPath}
-use Rattle.synchronization_parameters.specs.SynchronizationReader.{zeroSynchronization}
+use Rattle.synchronization_parameters.specs.SynchronizationReader.{synchronization, zeroSynchronization}
+use Rattle.synchronization_parameters.specs.FieldWidths.{fixedWidths}
 use Rattle.synchronization_parameters.specs.Said.{synchronizationRead}
 use Rattle.synchronization_parameters.specs.Outcomes.{outcomeSynchronization}
 use Rattle.tlv_items.specs.Said.{saidEnd}
 use Rattle.tlvs.specs.Said.{saidFoundDataPath}
-use Rattle.action_frame.specs.Frames.{zeroFrame}
+use Rattle.action_frame.specs.Frames.{header, zeroFrame}
 use Rattle.action_frame.specs.Said.{saidFrame}
 use Rattle.action_frame.specs.Outcomes.{outcomeFrame}
-use Rattle.promises.specs.Answers.{refusedOutcome, refusedResult, Once, Answering, HeldBeside}
+use Rattle.promises.specs.Answers.{refusedOutcome, refusedResult, Once, Answering, HeldBeside, ShortInFrame}
 
-pub record Demand1 : Type 0 where
-  -- a refusal's number is one of 1 to 8 or 10, and each refusal has its own; 9 is given to none
+pub record Demand1 : Type 1 where
+  -- a refusal's number is one of 1 to 8 or 10; 9 is given to none. Its number and its offset tell which refusal it is
   pub numbers : (why : Refusal) → ((1 ≤ numberOf why) × (numberOf why ≤ 8)) ⊎ (numberOf why ≡ 10)
-  pub apart : (why other : Refusal) → numberOf why ≡ numberOf other → why ≡ other
-  -- a refusal stands for its number, the zero value and size 0, and only one answer meets each statement (where a contract is
+  pub apart : (why other : Refusal) → numberOf why ≡ numberOf other → offsetOf why ≡ offsetOf other → why ≡ other
+  -- whatever does not stand for the number 1, a success too, stands for the offset 0
+  pub reader-offsets : {A : Type 0} (nothing : A) (at : ℕ) (r : Reading A) → ¬ (outcome nothing at r .number ≡ 1) → outcome nothing at r .offset ≡ 0
+  pub call-offsets : {A : Type 0} (nothing : A) (a : Answer A) → ¬ (result nothing a .number ≡ 1) → result nothing a .offset ≡ 0
+  -- with the number 1 the offset is that of the first byte of the field that does not fit, and there is no other; it counts from the start of what the
+  -- reader was given: of the single fields, of the parts of a record, of the records and of the header
+  pub field-offset : (n : ℕ) → ShortExactly (field n)
+  pub number-offset : (width : ℕ) → ShortExactly (number width)
+  pub address-offset : ShortExactly address
+  pub sequence-offset : (encoding : ℕ) → ShortExactly (sequence encoding)
+  pub head-offset : ShortExactly head
+  pub body-offset : (flags : ℕ) → ShortExactly (body flags)
+  pub data-path-offset : ShortExactly dataPath
+  pub synchronization-offset : ShortExactly synchronization
+  pub channel-sequence-offset : ShortExactly channelSequence
+  pub header-offset : ShortExactly header
+  -- which field it is goes by the widths alone where the bytes end in front of the entries of a sequence, whatever the count and the encoding say
+  pub channel-sequence-front : (s : List ℕ) (at : ℕ) → length s < at + 6 → channelSequence s at ≡ refused (Short (firstShort headWidths s at))
+  pub synchronization-front : (s : List ℕ) → length s < 39 → synchronization s 0 ≡ refused (Short (firstShort (fixedWidths ++ headWidths) s 0))
+  -- an offset in the value of an item is turned into one of the frame; that of a header counts from the frame's start already
+  pub data-path-in-frame : ShortInFrame dataPath
+  pub synchronization-in-frame : ShortInFrame synchronization
+  pub channel-sequence-in-frame : ShortInFrame channelSequence
+  -- a refusal stands for its number, its offset, the zero value and size 0, and only one answer meets each statement (where a contract is
   -- an equation of the answer itself, there is nothing to show):
   -- of a number, an address and a place that are read, and of a size
   pub u8 : (at : ℕ) → Answering saidU8 refused (outcomeU8 at) (refusedOutcome 0)

@@ -43,15 +43,18 @@ abbrev pub AllHold : List Row → Type 0
 AllHold [] = Unit {0}
 AllHold (row ∷ rest) = Holds row × AllHold rest
 
--- a refusal of a number, with the zero record and size 0
+-- a refusal of a number, with the zero record and size 0; number 1 goes with the offset of the field that does not fit
 abbrev pub refusedWith : {A : Type 0} → ℕ → A → Outcome A
-refusedWith n nothing = record { number = n; value = nothing; size = 0 }
+refusedWith n nothing = record { number = n; offset = 0; value = nothing; size = 0 }
+
+abbrev pub shortAt : {A : Type 0} → ℕ → A → Outcome A
+shortAt offset nothing = record { number = 1; offset = offset; value = nothing; size = 0 }
 
 abbrev pub acceptedWith : {A : Type 0} → A → ℕ → Outcome A
-acceptedWith a size = record { number = 0; value = a; size = size }
+acceptedWith a size = record { number = 0; offset = 0; value = a; size = size }
 
 abbrev pub written : List ℕ → Result (List ℕ)
-written bytes = record { number = 0; value = bytes }
+written bytes = record { number = 0; offset = 0; value = bytes }
 
 -- a record with these flags, country and channel, and nothing else
 abbrev pub holding : ℕ → CountryCode → OptionalChannel → DataPathStateTLV
@@ -83,7 +86,7 @@ map bits = record { present = true; channel = DataPathChannel.ChannelMap (record
 unfoldable pub rows : List Row
 rows =
     value (0x00 ∷ 0x00 ∷ []) (acceptedWith zeroDataPath 2)
-    ∷ value (0x00 ∷ 0x01 ∷ 0x44 ∷ 0x45 ∷ []) (refusedWith 1 zeroDataPath)
+    ∷ value (0x00 ∷ 0x01 ∷ 0x44 ∷ 0x45 ∷ []) (shortAt 2 zeroDataPath)
     ∷ value (0x00 ∷ 0x01 ∷ 0x44 ∷ 0x45 ∷ 0x00 ∷ []) (acceptedWith (holding 0x0100 (letters 0x44 0x45) noChannel) 5)
     ∷ value (0x00 ∷ 0x02 ∷ 0x24 ∷ 0x00 ∷ []) (acceptedWith (holding 0x0200 noCountry (single 36)) 4)
     ∷ value (0x00 ∷ 0x02 ∷ 0x24 ∷ 0x01 ∷ []) (acceptedWith (holding 0x0200 noCountry (single 36)) 4)
@@ -94,10 +97,10 @@ rows =
     ∷ again (0x00 ∷ 0x10 ∷ 0x04 ∷ 0x00 ∷ 0xFF ∷ 0xFF ∷ 0xFF ∷ 0xFF ∷ []) (written (0x00 ∷ 0x10 ∷ 0x04 ∷ 0x00 ∷ 0x6A ∷ 0xFE ∷ 0xFF ∷ 0xFF ∷ []))
     ∷ again (0x00 ∷ 0x80 ∷ 0x80 ∷ 0x00 ∷ []) (written (0x00 ∷ 0x80 ∷ 0x00 ∷ 0x00 ∷ []))
     ∷ frame (0x09 ∷ []) (refusedWith 2 zeroFrame)
-    ∷ frame (0x08 ∷ []) (refusedWith 1 zeroFrame)
+    ∷ frame (0x08 ∷ []) (shortAt 1 zeroFrame)
     ∷ frame (0x08 ∷ 0x11 ∷ []) (refusedWith 3 zeroFrame)
     ∷ tail (0x0C ∷ 0x01 ∷ 0x00 ∷ []) (record { items = []; ending = cut 0 })
     ∷ tail (0x00 ∷ 0x00 ∷ 0x00 ∷ []) (record { items = record { at = 0; «tlv_type» = 0; length = 0 } ∷ []; ending = whole })
-    ∷ legacy 1 1 (record { number = 0; value = 255 })
-    ∷ legacy 2 254 (record { number = 0; value = 0 })
+    ∷ legacy 1 1 (record { number = 0; offset = 0; value = 255 })
+    ∷ legacy 2 254 (record { number = 0; offset = 0; value = 0 })
     ∷ []

@@ -1,4 +1,5 @@
 pub mod Whole
+pub mod Laid
 pub mod Sizes
 pub mod RoundTrip
 pub mod Again

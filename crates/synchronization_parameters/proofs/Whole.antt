@@ -1,29 +1,31 @@
 -- Where 33 bytes stand, each field is read at its offset and the sequence decides: these bytes are taken apart and computed with; a shorter value is refused by its widths.
 -- Assumes nothing.
-use Prim.Native.Nat.{ℕ, _+_, _*_, _≤_, _<_}
+use Prim.Native.Nat.{ℕ, _+_, _*_, _≤_, _<_, zero-le}
 use native.Mathlib.Nat.{add-zero}
 use native.Mathlib.Omega.{arith}
 use native.Mathlib.Decide.{decLe}
 use mathlib.Core.Logic.{dite}
 use mathlib.Core.Path.{_≡_, sym, ap, subst, _∙_}
 use mathlib.Core.Bool.{true}
-use mathlib.Core.List.{List, [], _∷_, _++_}
+use mathlib.Core.List.{List, _++_}
 use lib.Dec.{leb}
 use lib.ListN.{length, getD, drop}
 use borrow.Author.Tests.{le-leb, leb-true}
-use Rattle.wire.specs.declared.refusal.Refusal.{Refusal}
 use Rattle.wire.specs.declared.refusal.Refusal.the-variants.{Short}
 use Rattle.wire.specs.Reading.{read, refused, onward}
-use Rattle.wire.specs.Answer.{answer, refusal}
+use Rattle.wire.specs.ShortFields.{firstShort}
 use Rattle.wire.specs.Addresses.{addressOf}
 use Rattle.wire.proofs.Bytes.{from, opened}
-use Rattle.wire.proofs.Lawful.{Lawful, never, steps, give-lawful, bind-lawful}
-use Rattle.wire.proofs.Fixed.{past, past-short, made-field, Begins, begins-any, begins-field, begins-number}
+use Rattle.wire.proofs.Lawful.{Lawful, never, steps, give-lawful}
+use Rattle.wire.proofs.Fixed.{past-short, made-field, Begins, begins-bind, begins-field, begins-number}
+use Rattle.wire.proofs.Laid.{short-in-front}
 use Rattle.channel_sequence.specs.declared.channel_sequence_tlv.ChannelSequenceTLV.{ChannelSequenceTLV}
 use Rattle.channel_sequence.specs.SequenceTLVReader.{channelSequence}
-use Rattle.channel_sequence.proofs.SequenceTLVs.{channel-sequence-lawful}
+use Rattle.channel_sequence.specs.FieldWidths.{headWidths}
+use Rattle.channel_sequence.proofs.SequenceTLVs.{channel-sequence-begins}
 use Rattle.synchronization_parameters.specs.declared.synchronization_parameters_tlv.SynchronizationParametersTLV.{SynchronizationParametersTLV}
 use Rattle.synchronization_parameters.specs.SynchronizationReader.{synchronization}
+use Rattle.synchronization_parameters.specs.FieldWidths.{fixedWidths}
 
 abbrev byteAt : List ℕ → ℕ → ℕ
 byteAt s at = getD s at 0
@@ -79,41 +81,24 @@ pub all-words : (s : List ℕ) → 33 ≤ length s → {channels : ChannelSequen
     → synchronization s 0 ≡ read (worded s channels a b c d e f g h i) next
 all-words s enough entries ea eb ec ed ee ef eg eh ei = rw (ea, eb, ec, ed, ee, ef, eg, eh, ei) (all-fields s enough ∙ rw entries)
 
--- the width of each field
-abbrev pub widths : List ℕ
-widths = 1 ∷ 2 ∷ 1 ∷ 1 ∷ 2 ∷ 2 ∷ 2 ∷ 2 ∷ 2 ∷ 2 ∷ 1 ∷ 1 ∷ 1 ∷ 1 ∷ 6 ∷ 2 ∷ 2 ∷ 2 ∷ []
-
-begins : Begins synchronization widths
+begins : Begins synchronization (fixedWidths ++ headWidths)
 unfolding synchronization
 begins =
     begins-number 1 λ _. begins-number 2 λ _. begins-number 1 λ _. begins-number 1 λ _.
     begins-number 2 λ _. begins-number 2 λ _. begins-number 2 λ _. begins-number 2 λ _. begins-number 2 λ _. begins-number 2 λ _.
     begins-number 1 λ _. begins-number 1 λ _. begins-number 1 λ _. begins-number 1 λ _.
     begins-field (made-field 6 addressOf) λ _. begins-field (made-field 2 (λ bytes. getD bytes 0 0)) λ _.
-    begins-number 2 λ _. begins-number 2 λ _. begins-any (bind-lawful channel-sequence-lawful λ c. give-lawful _)
+    begins-number 2 λ _. begins-number 2 λ _. begins-bind channel-sequence-begins λ c. give-lawful _
 
 pub synchronization-lawful : Lawful synchronization
 synchronization-lawful = begins .lawful
 
--- where a field is refused, so is the value
-pub field-refused : (s : List ℕ) (why : Refusal) → past widths s 0 ≡ refusal why → synchronization s 0 ≡ refused why
-field-refused s why e = begins .refuses s 0 why e
+-- a value that ends in front of the entries is short at the first field that does not fit, and so is one without its whole fixed part
+pub front-short : (s : List ℕ) → length s < 39 → synchronization s 0 ≡ refused (Short (firstShort (fixedWidths ++ headWidths) s 0))
+front-short s h = begins .refuses s 0 _ (past-short 1 (drop 1 (fixedWidths ++ headWidths)) s 0 h)
 
-past-widths : (s : List ℕ) → length s < 33 → past widths s 0 ≡ refusal Short
-past-widths s h = past-short 1 (drop 1 widths) s 0 h
-
-pub short : (s : List ℕ) → length s < 33 → synchronization s 0 ≡ refused Short
-short s h = field-refused s Short (past-widths s h)
-
--- in a value that is too short there is one field more, as long as none was refused
-pub field-left : (s : List ℕ) → length s < 33 → (i at : ℕ) → i ≤ 18 → past widths s 0 ≡ past (drop i widths) s at → i < 18
-field-left s h i at most left =
-    dite (decLe 18 i)
-    (λ all.
-    let last : i ≡ 18 = omega arith in
-    let none : refusal Short ≡ answer at = sym (past-widths s h) ∙ left ∙ rw last in
-    let z : _≡_ {A = ℕ} 0 1 = cc in absurd (omega arith))
-    (λ more. omega arith)
+pub fixed-short : (s : List ℕ) → length s < 33 → synchronization s 0 ≡ refused (Short (firstShort fixedWidths s 0))
+fixed-short s h = front-short s (omega arith) ∙ ap (λ (p : ℕ). refused (Short p)) (short-in-front fixedWidths headWidths s 0 h zero-le)
 
 -- what a record was read of: 33 bytes, and the sequence behind them
 pub record FieldsAndChannels (s : List ℕ) (p : SynchronizationParametersTLV) (size : ℕ) : Type 0 where
@@ -130,4 +115,4 @@ fields-and-channels s {p} {size} e =
     let goes = w .goes in
     let ends : w .mid ≡ size = cc in
     record { enough = here; channels = w .first; entries = w .begins ∙ ap (read (w .first)) ends; made = cc })
-    (λ past. absurd (never (sym (short s (omega arith)) ∙ e)))
+    (λ past. absurd (never (sym (fixed-short s (omega arith)) ∙ e)))

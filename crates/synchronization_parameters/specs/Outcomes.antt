@@ -1,4 +1,4 @@
--- The number and the values that each answer stands for.
+-- The number, the offset and the values that each answer stands for.
 use Rattle.wire.specs.Said.{saidBeside}
 use Rattle.wire.specs.Outcomes.{Outcome, outcome}
 use Rattle.synchronization_parameters.specs.declared.synchronization_parameters_tlv.SynchronizationParametersTLV.{SynchronizationParametersTLV}

@@ -1,6 +1,6 @@
 ghost use mathlib.Core.Path.{_≡_};
 ghost use mathlib.Core.List.{_++_};
-ghost use Prim.Native.Nat.{_+_, _*_, _≤_, _<_};
+ghost use Prim.Native.Nat.{_+_, _*_, _≤_};
 ghost use lib.ListN.{length, getD, take};
 ghost use Rattle.wire.specs.Reading as Reading;
 ghost use Rattle.wire.specs.Said.{saidSize};
@@ -56,7 +56,7 @@ const FIXED_SIZE: usize = 33;
 const HEAD_SIZE: usize = 6;
 
 // How many of the fixed bytes each field takes. The reserved byte belongs to the mode before it.
-const WIDTHS: [usize; 18] = [1, 2, 1, 1, 2, 2, 2, 2, 2, 2, 1, 1, 1, 1, 6, 2, 2, 2];
+const WIDTHS: [u8; 18] = [1, 2, 1, 1, 2, 2, 2, 2, 2, 2, 1, 1, 1, 1, 6, 2, 2, 2];
 
 impl SynchronizationParametersTLV {
     pub const TLV_TYPE: u8 = AWDLTLVType::SYNCHRONIZATION_PARAMETERS;
@@ -70,7 +70,8 @@ impl SynchronizationParametersTLV {
     {
         // Only where the fixed part is not all there, the field that is short is looked for.
         if s.len() < FIXED_SIZE {
-            return refused(short_field(s));
+            let widths = WIDTHS;
+            return refused(Refusal::Short(wire::first_short(s, 0, &widths)));
         }
         let read = ChannelSequenceTLV::read(s, FIXED_SIZE);
         let answer = read.answer;
@@ -151,25 +152,6 @@ fn no_parameters() -> SynchronizationParametersTLV
                 bytes: [0; 32],
             },
         },
-    }
-}
-
-// Why a value without its whole fixed part is refused: for the first field that does not fit.
-fn short_field(s: &[u8]) -> Refusal
-    requires { ⌜ length (now s) < 33 ⌝ }
-    ensures { λ r. ⌜ synchronization (now (s .entry)) 0 ≡ Reading.refused r ⌝ }
-{
-    let widths = WIDTHS;
-    let mut at = 0;
-    let mut i = 0;
-    loop {
-        match wire::field_at(s, at, widths[i]) {
-            Place::At(behind_field) => {
-                at = behind_field;
-                i += 1;
-            }
-            Place::Refused(why) => return why,
-        }
     }
 }
 

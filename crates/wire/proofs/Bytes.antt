@@ -43,7 +43,7 @@ field-whole n s at h =
     (ap (λ (b : List ℕ). read b (at + suc n))
     (rw add-zero at (from-take s at 0 (suc n) here)))
 
-pub field-short : (n : ℕ) (s : List ℕ) (at : ℕ) → length s - at < suc n → field (suc n) s at ≡ refused Short
+pub field-short : (n : ℕ) (s : List ℕ) (at : ℕ) → length s - at < suc n → field (suc n) s at ≡ refused (Short at)
 field-short n s at h =
     let past : length s < at + suc n = omega arith in
     rw (lt-leb (at + suc n) (length s) past)
@@ -54,14 +54,14 @@ pub made-whole : {A : Type 0} (n : ℕ) (s : List ℕ) (at : ℕ) (g : List ℕ 
 made-whole n s at g h = rw (field-whole n s at h)
 
 pub made-short : {A : Type 0} (n : ℕ) (s : List ℕ) (at : ℕ) (g : List ℕ → A) → length s - at < suc n
-    → refused Short ≡ (field (suc n) >>= λ x. give (g x)) s at
+    → refused (Short at) ≡ (field (suc n) >>= λ x. give (g x)) s at
 made-short n s at g h = rw (field-short n s at h)
 
 pub number-whole : (n : ℕ) (s : List ℕ) (at v : ℕ) → suc n ≤ length s - at
     → v ≡ getD s at 0 + 256 * little (from s at 1 n) → read v (at + suc n) ≡ number (suc n) s at
 number-whole n s at v h e = rw e (made-whole n s at little h)
 
-pub number-short : (n : ℕ) (s : List ℕ) (at : ℕ) → length s - at < suc n → refused Short ≡ number (suc n) s at
+pub number-short : (n : ℕ) (s : List ℕ) (at : ℕ) → length s - at < suc n → refused (Short at) ≡ number (suc n) s at
 number-short n s at h = made-short n s at little h
 
 -- a field whose place was given: it stands within, and is the part up to that place

@@ -6,6 +6,7 @@ use mathlib.Core.Bool.{Bool, true, false, cond}
 use mathlib.Core.List.{List}
 use Rattle.wire.specs.declared.refusal.Refusal.{Refusal}
 use Rattle.wire.specs.Reading.{Reader, read, give, refuse, _>>=_, when}
+use Rattle.wire.specs.Answer.{Answer, answer, refusal, asked}
 use Rattle.wire.proofs.Lawful.{never, steps, grouped}
 
 pub record Gives {A : Type 0} (s : List ℕ) (r : Reader A) (P : A → Type 0) : Type 0 where
@@ -20,6 +21,10 @@ gives-give {P = P} a p = record { of = λ {at} {next} {a = b} e. let same : a �
 
 pub gives-refuse : {A : Type 0} {s : List ℕ} {P : A → Type 0} (why : Refusal) → Gives s (refuse why) P
 gives-refuse why = record { of = λ e. absurd (never e) }
+
+pub gives-asked : {A : Type 0} {s : List ℕ} (found : Answer A) → Gives s (asked found) (λ a. found ≡ answer a)
+gives-asked (answer a) = record { of = λ e. cc }
+gives-asked (refusal why) = record { of = λ e. absurd (never e) }
 
 pub gives-bind : {A B : Type 0} {s : List ℕ} {m : Reader A} {f : A → Reader B} {Q : A → Type 0} {P : B → Type 0}
     → Gives s m Q → ((a : A) → Q a → Gives s (f a) P) → Gives s (m >>= f) P

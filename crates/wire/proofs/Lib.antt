@@ -1,6 +1,7 @@
 pub mod Lawful
 pub mod ReadsBack
 pub mod Gives
+pub mod Laid
 pub mod Octets
 pub mod Again
 pub mod Fixed

@@ -1,19 +1,17 @@
 -- What a place that was given tells of the field in front of it, and what a refusal tells of the fields behind.
 -- Assumes nothing.
-use Prim.Native.Nat.{ℕ, suc, _+_, _-_, _≤_, _<_}
+use Prim.Native.Nat.{ℕ, suc, _+_, _-_, _≤_}
 use native.Mathlib.Omega.{arith}
-use mathlib.Core.Path.{_≡_, refl, sym, ap}
-use mathlib.Core.Bool.{Bool, true, false, cond}
+use mathlib.Core.Path.{_≡_, sym, ap}
 use mathlib.Core.List.{List, _∷_}
-use lib.Dec.{leb}
 use lib.ListN.{length, getD, take, drop, length-take, length-drop}
 use lib.Seq.{take-all}
-use borrow.Author.Tests.{leb-false, lt-leb}
+use borrow.Author.Tests.{lt-leb}
 use Rattle.wire.specs.declared.refusal.Refusal.{Refusal}
 use Rattle.wire.specs.declared.refusal.Refusal.the-variants.{Short}
 use Rattle.wire.specs.Reading.{Reading, read, refused, field, give, _>>=_}
 use Rattle.wire.specs.Answer.{answer, placeOf}
-use Rattle.wire.proofs.Lawful.{never, steps, field-read}
+use Rattle.wire.proofs.Lawful.{steps, field-read, field-refused}
 use Rattle.wire.proofs.Bytes.{PlacedField, from, field-whole}
 
 -- a reading that has no value but its place is that place
@@ -46,15 +44,8 @@ field-size n s at e =
     rw (← f .2) (simp (length-drop, length-take) (omega arith))
 
 -- behind a field that does not fit, no other one does
-pub field-past : (n m : ℕ) (s : List ℕ) (at : ℕ) {why : Refusal} → field n s at ≡ refused why → field m s (at + n) ≡ refused Short
-field-past n m s at {why} e = go (leb (at + n) (length s)) refl e
-  where
-    go : (b : Bool) → leb (at + n) (length s) ≡ b → cond b (read (take n (drop at s)) (at + n)) (refused Short) ≡ refused why
-        → field m s (at + n) ≡ refused Short
-    go true q e = absurd (never (sym e))
-    go false q e =
-        let past : length s < at + n = leb-false (at + n) (length s) q in
-        rw (lt-leb (at + n + m) (length s) (omega arith))
+pub field-past : (n m : ℕ) (s : List ℕ) (at : ℕ) {why : Refusal} → field n s at ≡ refused why → field m s (at + n) ≡ refused (Short (at + n))
+field-past n m s at e = let past = field-refused n s at e in rw (lt-leb (at + n + m) (length s) (omega arith))
 
 -- the part from a place to the end
 pub rest : (s : List ℕ) (at : ℕ) → take (length s - at) (drop at s) ≡ drop at s

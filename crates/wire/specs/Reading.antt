@@ -23,9 +23,9 @@ give a s at = read a at
 abbrev pub refuse : {A : Type 0} → Refusal → Reader A
 refuse why s at = refused why
 
--- the next n bytes; a list that ends before the last of them, or before the place, is short
+-- the next n bytes; a list that ends before the last of them, or before the place, is short at the place
 abbrev pub field : ℕ → Reader (List ℕ)
-field n s at = cond (leb (at + n) (length s)) (read (take n (drop at s)) (at + n)) (refused Short)
+field n s at = cond (leb (at + n) (length s)) (read (take n (drop at s)) (at + n)) (refused (Short at))
 
 -- what was read is handed on, and a refusal ends it
 abbrev pub onward : {A B : Type 0} → Reading A → (A → ℕ → Reading B) → Reading B

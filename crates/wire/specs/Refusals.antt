@@ -1,10 +1,10 @@
--- The number of each refusal. None has 9: every two stamps have a gap.
+-- The number of each refusal, and the offset beside it. None has the number 9: every two stamps have a gap.
 use Prim.Native.Nat.{ℕ}
 use Rattle.wire.specs.declared.refusal.Refusal.{Refusal}
 use Rattle.wire.specs.declared.refusal.Refusal.the-variants.{Short, NotAction, NotVersion, UnicastLength, Encoding, NoRoom, Inconsistent, TooLong, ChannelCount}
 
 abbrev pub numberOf : Refusal → ℕ
-numberOf Short = 1
+numberOf (Short at) = 1
 numberOf NotAction = 2
 numberOf NotVersion = 3
 numberOf UnicastLength = 4
@@ -13,3 +13,15 @@ numberOf NoRoom = 6
 numberOf Inconsistent = 7
 numberOf TooLong = 8
 numberOf ChannelCount = 10
+
+-- where it was short; all others have 0
+abbrev pub offsetOf : Refusal → ℕ
+offsetOf (Short at) = at
+offsetOf NotAction = 0
+offsetOf NotVersion = 0
+offsetOf UnicastLength = 0
+offsetOf Encoding = 0
+offsetOf NoRoom = 0
+offsetOf Inconsistent = 0
+offsetOf TooLong = 0
+offsetOf ChannelCount = 0

@@ -14,6 +14,7 @@ pub use read::ReadU16;
 pub use read::ReadU32;
 pub use read::address_at;
 pub use read::field_at;
+pub use read::first_short;
 pub use read::u8_at;
 pub use read::u16_at;
 pub use read::u16_of;

@@ -1,10 +1,11 @@
 ghost use mathlib.Core.Path.{_≡_};
-ghost use Rattle.wire.specs.Refusals.{numberOf};
+ghost use Rattle.wire.specs.Refusals.{numberOf, offsetOf};
 
 // Why a call refuses. Every crate answers with one of these.
 pub enum Refusal {
-    // The input ends before a byte that is needed.
-    Short,
+    // The input ends before a byte that is needed. The offset is that of the first byte of the field that does not fit, counted
+    // from the start of what the reader was given.
+    Short(usize),
     // The frame's first byte is there and is not 0x08.
     NotAction,
     // The frame's second byte is there and is not 0x10.
@@ -29,7 +30,7 @@ impl Refusal {
         ensures { λ r. ⌜ r ≡ numberOf self ⌝ }
     {
         match self {
-            Refusal::Short => 1,
+            Refusal::Short(_) => 1,
             Refusal::NotAction => 2,
             Refusal::NotVersion => 3,
             Refusal::UnicastLength => 4,
@@ -38,6 +39,24 @@ impl Refusal {
             Refusal::Inconsistent => 7,
             Refusal::TooLong => 8,
             Refusal::ChannelCount => 10,
+        }
+    }
+
+    // Only a reader that is short has one, and all others have 0. Of a header it is an offset of the frame; of an item's value
+    // `AWDLActionFrame::offset_in_frame` makes one.
+    pub fn offset(self) -> usize
+        ensures { λ r. ⌜ r ≡ offsetOf self ⌝ }
+    {
+        match self {
+            Refusal::Short(at) => at,
+            Refusal::NotAction => 0,
+            Refusal::NotVersion => 0,
+            Refusal::UnicastLength => 0,
+            Refusal::Encoding => 0,
+            Refusal::NoRoom => 0,
+            Refusal::Inconsistent => 0,
+            Refusal::TooLong => 0,
+            Refusal::ChannelCount => 0,
         }
     }
 }

@@ -1,4 +1,4 @@
--- `ChannelSequenceTLV::read` meets its contract: the six bytes are one field, and then the count is looked at.
+-- `ChannelSequenceTLV::read` meets its contract: where the six bytes stand, the count is looked at, and where they do not, the first field that is short.
 -- Assumes nothing.
 use Rattle.channel_sequence.proofs.SequenceTLVs.{head-refused, count-wrong}
 use Rattle.channel_sequence.proofs.channel_sequence_tlv.ChannelSequenceTLV.read.Statement.{statement}
@@ -31,12 +31,14 @@ returns-2 c = c .read-entries .ensures
 
 returns-3 : tie.Need-returns-3
 returns-3 c =
-    let a = c .before .before .before .before .before .before .args in
-    let said = ap saidPlace (sym (c .before .before .why .given .1)) ∙ c .before .before .before .before .field-at .ensures in
-    rw (head-refused (a .s .now) (a .at) said) (c .refused2 .ensures)
+    let a = c .before .before .before .before .before .before .before .args in
+    let call = c .before .before .before in
+    let said = ap saidPlace (sym (call .enum-told .given .1)) ∙ call .before .before .field-at .ensures in
+    rw (head-refused (a .s .now) (a .at) said) (rw (c .before .first-short .ensures) at (c .refused2 .ensures))
 
 pub read-spec : {M : Type 1} → statement M
 read-spec =
     tie.close
     (tie.spec
-    (search needs) (search needs) shared-slice-read-if1 (search needs) returns read-entries-requires (search needs) (search needs) returns-2 returns-3)
+    (search needs) (search needs) shared-slice-read-if1 (search needs) returns read-entries-requires
+    (search needs) (search needs) (search needs) (search needs) returns-2 returns-3)

@@ -2,14 +2,16 @@
 -- Assumes nothing.
 use Rattle.channel_sequence.proofs.Beside.{channel-sequence-beside}
 use Rattle.channel_sequence.specs.SequenceTLVReader.{channelSequence}
-use Rattle.synchronization_parameters.proofs.Whole.{all-fields}
+use Rattle.synchronization_parameters.proofs.Whole.{all-fields, fixed-short}
 use Rattle.synchronization_parameters.proofs.synchronization_parameters_tlv.SynchronizationParametersTLV.read.Statement.{statement}
 use Rattle.synchronization_parameters.proofs.synchronization_parameters_tlv.SynchronizationParametersTLV.read.Tie as tie
 use borrow.Author.Needs.{needs}
 use native.Mathlib.Omega.{arith}
 
 returns : tie.Need-returns
-returns c = rw (c .before .short-field .ensures) (c .refused .ensures)
+returns c =
+    let s = c .before .before .before .before .before .args .s .now in
+    rw (fixed-short s (omega arith)) (rw (c .before .first-short .ensures) at (c .refused .ensures))
 
 read-fields-requires : tie.Need-read-fields-requires
 read-fields-requires c κs =
@@ -28,4 +30,4 @@ returns-3 c =
 pub read-spec : {M : Type 1} → statement M
 read-spec =
     tie.close
-    (tie.spec (search needs) (search needs) returns (search needs) (search needs) read-fields-requires (search needs) (search needs) returns-2 returns-3)
+    (tie.spec (search needs) (search needs) (search needs) returns (search needs) (search needs) read-fields-requires (search needs) (search needs) returns-2 returns-3)
