@@ -11,12 +11,10 @@ use lib.Seq.{take-at, drop-at}
 use borrow.Author.Tests.{eq-eqb}
 use Rattle.wire.specs.declared.refusal.Refusal.{Refusal}
 use Rattle.wire.specs.declared.refusal.Refusal.the-variants.{NotAction, NotVersion}
-use Rattle.wire.specs.Refusals.{numberOf}
 use Rattle.wire.specs.Reading.{read}
 use Rattle.wire.specs.Answer.{answer, require}
 use Rattle.wire.specs.Numbers.{littleBytes}
 use Rattle.wire.specs.Writing.{Wrote}
-use Rattle.wire.proofs.Lawful.{Lawful, bind-lawful, require-lawful, made-lawful, field-lawful, number-lawful}
 use Rattle.wire.proofs.ReadsBack.{Back, bind-back, asked-back, made-back, field-back, number-back}
 use Rattle.action_frame.specs.declared.AWDLActionFrame.{AWDLActionFrame}
 use Rattle.action_frame.specs.Frames.{fixedByte, subtype, subtypeBytes, header, tailOf, headerBytes, bytesOf, InWidth}
@@ -71,13 +69,3 @@ written-back f tail s {n} {after} w p =
       rw (laid, take-at bytes (drop n s) n size) (filled .rest),
       rw laid (drop-at bytes (drop n s) n size),
     )
-
-fixed-lawful : (value : ℕ) (why : Refusal) → ¬ (numberOf why ≡ 1) → Lawful (fixedByte value why)
-fixed-lawful value why other = bind-lawful (number-lawful 1) (λ byte. require-lawful (eqb byte value) why other)
-
-pub header-lawful : Lawful header
-header-lawful =
-    bind-lawful (fixed-lawful 0x08 NotAction (λ e. omega arith))
-    (λ _. bind-lawful (fixed-lawful 0x10 NotVersion (λ e. omega arith))
-    (λ _. bind-lawful (made-lawful (λ bytes. getD bytes 0 0) (field-lawful 2))
-    (λ subtype. bind-lawful (number-lawful 4) (λ phy. made-lawful _ (number-lawful 4)))))

@@ -33,44 +33,44 @@ use Rattle.data_path_state.specs.DataPath.{recordOf, dataPath}
 use Rattle.data_path_state.specs.FieldWidths.{there, fieldWidths}
 
 -- each optional field
-abbrev countryWidths : CountryCode → List ℕ
+abbrev pub countryWidths : CountryCode → List ℕ
 countryWidths c = there (c .present) (3 ∷ [])
 
-abbrev channelWidths : OptionalChannel → List ℕ
+abbrev pub channelWidths : OptionalChannel → List ℕ
 channelWidths c = there (c .present) (2 ∷ [])
 
-abbrev infraWidths : InfraBssidChannel → List ℕ
+abbrev pub infraWidths : InfraBssidChannel → List ℕ
 infraWidths i = there (i .present) (6 ∷ 2 ∷ [])
 
-abbrev addressWidths : OptionalAddress → List ℕ
+abbrev pub addressWidths : OptionalAddress → List ℕ
 addressWidths a = there (a .present) (6 ∷ [])
 
-abbrev wordWidths : OptionalWord → List ℕ
+abbrev pub wordWidths : OptionalWord → List ℕ
 wordWidths w = there (w .present) (4 ∷ [])
 
-abbrev triggerWidths : OptionalTriggerId → List ℕ
+abbrev pub triggerWidths : OptionalTriggerId → List ℕ
 triggerWidths t = there (t .present) (2 ∷ [])
 
-abbrev statsWidths : OptionalStats → List ℕ
+abbrev pub statsWidths : OptionalStats → List ℕ
 statsWidths s = there (s .present) (4 ∷ 4 ∷ 4 ∷ [])
 
 -- each part of a record
-abbrev headWidths : Head → List ℕ
+abbrev pub headWidths : Head → List ℕ
 headWidths h = 2 ∷ (countryWidths (h .country) ++ channelWidths (h .channel))
 
-abbrev addressesWidths : Addresses → List ℕ
+abbrev pub addressesWidths : Addresses → List ℕ
 addressesWidths a = infraWidths (a .bssid) ++ (addressWidths (a .infra) ++ addressWidths (a .awdl))
 
-abbrev unicastWidths : Unicast → List ℕ
+abbrev pub unicastWidths : Unicast → List ℕ
 unicastWidths u = there (u .options .present) (2 ∷ 4 ∷ []) ++ wordWidths (u .ext)
 
-abbrev announcedWidths : Extended → List ℕ
+abbrev pub announcedWidths : Extended → List ℕ
 announcedWidths e = triggerWidths (e .trigger) ++ (wordWidths (e .rlfc) ++ statsWidths (e .stats))
 
-abbrev extendedWidths : Extended → List ℕ
+abbrev pub extendedWidths : Extended → List ℕ
 extendedWidths e = there (e .flags .present) (2 ∷ []) ++ announcedWidths e
 
-abbrev bodyWidths : Body → List ℕ
+abbrev pub bodyWidths : Body → List ℕ
 bodyWidths b = addressesWidths (b .addresses) ++ (unicastWidths (b .unicast) ++ extendedWidths (b .extended))
 
 country-laid : Laid country countryWidths
@@ -99,7 +99,7 @@ stats-laid =
     gives-bind (gives-any (number 4)) λ msec _. gives-bind (gives-any (number 4)) λ aw _. gives-bind (gives-any (number 4)) λ pay _. gives-give _ refl
 
 -- and how they are put together: each field is kept by what is read behind it
-head-laid : Laid head headWidths
+pub head-laid : Laid head headWidths
 head-laid =
     laid-number 2 λ flags.
     laid-kept (λ h. h .country) (laid-when (bit 8 flags) noCountry refl country-laid)
@@ -136,7 +136,7 @@ extended-laid =
     gives-bind (gives-any (when (bit 2 (wordBy extendedKept word)) noWord oneWord)) λ rlfc _.
     gives-bind (gives-any (when (bit 5 (wordBy extendedKept word)) noStats stats)) λ stats _. gives-give _ refl
 
-body-laid : (flags : ℕ) → Laid (body flags) bodyWidths
+pub body-laid : (flags : ℕ) → Laid (body flags) bodyWidths
 body-laid flags =
     laid-three _ (λ b. b .addresses) (λ b. b .unicast) (λ b. b .extended) (addresses-laid flags) (laid-when (bit 12 flags) noUnicast refl unicast-laid)
     (laid-when (bit 15 flags) noExtended refl extended-laid) (λ addresses unicast extended. (refl, refl, refl))

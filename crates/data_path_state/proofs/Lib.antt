@@ -3,7 +3,6 @@ pub mod Masks
 pub mod Right
 pub mod Sizes
 pub mod RoundTrip
-pub mod Values
 pub mod Laid
 pub mod ReadConsistent
 pub mod FromBytes

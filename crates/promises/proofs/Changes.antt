@@ -12,7 +12,7 @@ use Rattle.wire.proofs.Lawful.{Lawful, grown}
 use Rattle.channel_sequence.specs.SequenceTLVReader.{channelSequence}
 use Rattle.channel_sequence.proofs.SequenceTLVs.{channel-sequence-lawful}
 use Rattle.data_path_state.specs.DataPath.{dataPath}
-use Rattle.data_path_state.proofs.Values.{data-path-lawful}
+use Rattle.data_path_state.proofs.Laid.{data-path-laid}
 use Rattle.synchronization_parameters.specs.SynchronizationReader.{synchronization}
 use Rattle.synchronization_parameters.proofs.Whole.{synchronization-lawful}
 use Rattle.tlv_items.specs.declared.item.Item.{Item}
@@ -96,7 +96,7 @@ pub synchronizations-kept : {items changed : List Sent} → Changes items change
 synchronizations-kept = changes-keep 0x04 synchronization synchronization-lawful (λ it u. u .no-synchronization) (λ it a. sorted it a .synchronizations)
 
 pub data-paths-kept : {items changed : List Sent} → Changes items changed → recordsIn 0x0C dataPath changed ≡ recordsIn 0x0C dataPath items
-data-paths-kept = changes-keep 0x0C dataPath data-path-lawful (λ it u. u .no-data-path) (λ it a. sorted it a .data-paths)
+data-paths-kept = changes-keep 0x0C dataPath (data-path-laid .lawful) (λ it u. u .no-data-path) (λ it a. sorted it a .data-paths)
 
 pub channel-sequences-kept : {items changed : List Sent} → Changes items changed → recordsIn 0x12 channelSequence changed ≡ recordsIn 0x12 channelSequence items
 channel-sequences-kept = changes-keep 0x12 channelSequence channel-sequence-lawful (λ it u. u .no-channel-sequence) (λ it a. sorted it a .channel-sequences)

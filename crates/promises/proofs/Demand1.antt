@@ -18,14 +18,14 @@ use Rattle.data_path_fields.specs.Outcomes.{zeroHead, zeroBody}
 use Rattle.data_path_fields.proofs.Once.{onceHead, onceBody}
 use Rattle.data_path_state.specs.Said.{saidDataPath}
 use Rattle.data_path_state.specs.Outcomes.{zeroDataPath}
-use Rattle.data_path_state.proofs.Values.{head-lawful, body-lawful, data-path-lawful}
+use Rattle.data_path_state.proofs.Laid.{head-laid, body-laid, data-path-laid}
 use Rattle.data_path_state.proofs.Once.{onceDataPath}
 use Rattle.synchronization_parameters.proofs.Whole.{synchronization-lawful, front-short}
 use Rattle.tlv_items.proofs.Once.{onceEnd}
 use Rattle.tlvs.proofs.Once.{onceFoundDataPath}
 use Rattle.action_frame.specs.Frames.{zeroFrame}
 use Rattle.action_frame.specs.Said.{saidFrame}
-use Rattle.action_frame.proofs.RoundTrip.{header-lawful}
+use Rattle.action_frame.proofs.Laid.{header-laid}
 use Rattle.action_frame.proofs.Once.{onceFrame}
 use Rattle.promises.proofs.InFrames.{short-in-frame}
 use Rattle.promises.proofs.Refusing.{number-range, numbers-apart, reader-offset, call-offset, reader-answers, call-answers, refused-buffer, short-buffer}
@@ -42,15 +42,15 @@ demand1 =
       number-offset = λ width. short-exactly (number-lawful width);
       address-offset = short-exactly address-lawful;
       sequence-offset = λ encoding. short-exactly (sequence-lawful encoding);
-      head-offset = short-exactly head-lawful;
-      body-offset = λ flags. short-exactly (body-lawful flags);
-      data-path-offset = short-exactly data-path-lawful;
+      head-offset = short-exactly (head-laid .lawful);
+      body-offset = λ flags. short-exactly (body-laid flags .lawful);
+      data-path-offset = short-exactly (data-path-laid .lawful);
       synchronization-offset = short-exactly synchronization-lawful;
       channel-sequence-offset = short-exactly channel-sequence-lawful;
-      header-offset = short-exactly header-lawful;
+      header-offset = short-exactly (header-laid .lawful);
       channel-sequence-front = head-short;
       synchronization-front = front-short;
-      data-path-in-frame = short-in-frame data-path-lawful;
+      data-path-in-frame = short-in-frame (data-path-laid .lawful);
       synchronization-in-frame = short-in-frame synchronization-lawful;
       channel-sequence-in-frame = short-in-frame channel-sequence-lawful;
       u8 = λ at. reader-answers saidU8 0 at (λ a b e. onceU8 e refl);

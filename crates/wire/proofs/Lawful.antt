@@ -12,7 +12,7 @@ use lib.Seq.{length-take-le, take-take, take-add, take-append-le, drop-at, drop-
 use borrow.Author.Tests.{le-leb, lt-leb, leb-true, leb-false}
 use Rattle.wire.specs.declared.refusal.Refusal.{Refusal}
 use Rattle.wire.specs.declared.refusal.Refusal.the-variants.{Short}
-use Rattle.wire.specs.Reading.{Reading, Reader, read, refused, give, refuse, field, onward, _>>=_, when}
+use Rattle.wire.specs.Reading.{Reading, Reader, read, refused, give, refuse, field, onward, _>>=_}
 use Rattle.wire.specs.ShortFields.{Made, gives, refuses, takes, row, ComesTo, itself, in-first, in-next, DoesNotFit, ShortExactly}
 use Rattle.wire.specs.Refusals.{numberOf}
 use Rattle.wire.specs.Answer.{Answer, asked, require}
@@ -220,10 +220,6 @@ pub asked-lawful : {A : Type 0} (b : Bool) (a c : Answer A) → Lawful (asked a)
 asked-lawful true a c l m = l
 asked-lawful false a c l m = m
 
-pub when-lawful : {A : Type 0} {r : Reader A} (b : Bool) (absent : A) → Lawful r → Lawful (when b absent r)
-when-lawful true absent l = l
-when-lawful false absent l = give-lawful absent
-
 -- a format that is one field, put together
 pub made-lawful : {A B : Type 0} {m : Reader A} (g : A → B) → Lawful m → Lawful (m >>= λ x. give (g x))
 made-lawful g l = bind-lawful l (λ a. give-lawful (g a))
@@ -233,10 +229,6 @@ number-lawful width = made-lawful little (field-lawful width)
 
 pub address-lawful : Lawful address
 address-lawful = made-lawful addressOf (field-lawful 6)
-
-pub cond-lawful : {A : Type 0} {r t : Reader A} (b : Bool) → Lawful r → Lawful t → Lawful (cond b r t)
-cond-lawful true l m = l
-cond-lawful false l m = m
 
 -- what was read from the start is read with more bytes behind it
 pub grown : {A : Type 0} {r : Reader A} → Lawful r → (s more : List ℕ) {a : A} {n : ℕ} → r s 0 ≡ read a n → r (s ++ more) 0 ≡ read a n
