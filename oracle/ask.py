@@ -139,6 +139,7 @@ def channel_and_kind(words):
 DATA_PATH_WORDS = [
     ("flags", u16),
     ("country_code", flag), ("country_first", u8), ("country_second", u8),
+    ("country_pad", u8),
     ("channel_map", flag), ("channel_kind", channel_kind), ("channel", u16),
     ("infra_bssid_channel", flag), ("infra_bssid", address), ("infra_channel", u16),
     ("infra_address", flag), ("infra", address),
@@ -154,10 +155,10 @@ DATA_PATH_WORDS = [
 
 
 def data_path_of(*w):
-    channel_fits(w[5], w[6])
+    channel_fits(w[6], w[7])
     return awdl.DataPath(
-        w[0], w[1:4], w[4:7], w[7:10], w[10:12], w[12:14], w[14:16], w[16:18],
-        w[18:20], w[20:22], w[22:24], w[24:28],
+        w[0], w[1:5], w[5:8], w[8:11], w[11:13], w[13:15], w[15:17], w[17:19],
+        w[19:21], w[21:23], w[23:25], w[25:29],
     )
 
 
@@ -183,7 +184,8 @@ def synchronization_of(*w):
 BYTES = one(any_bytes)
 BUFFER = one(any_bytes)
 FRAME = fields(
-    awdl.Frame, ("subtype", u8), ("phy_tx_time", u32), ("target_tx_time", u32)
+    awdl.Frame,
+    ("subtype", u8), ("reserved", u8), ("phy_tx_time", u32), ("target_tx_time", u32),
 )
 ITEM = fields(awdl.Item, ("at", usize), ("type", u8), ("length", usize))
 CHANNEL = fields(awdl.Channel, ("encoding", u8), ("first", u8), ("second", u8))
@@ -219,7 +221,7 @@ def show_value(data):
 
 
 def show_frame(frame):
-    return "subtype=%d phy_tx_time=%d target_tx_time=%d" % frame
+    return "subtype=%d reserved=%d phy_tx_time=%d target_tx_time=%d" % frame
 
 
 def show_item(item):
@@ -499,7 +501,7 @@ def kept(keep):
 CALLS = {
     "refusal": ([one(REFUSALS), OFFSET], refusal_answer),
     "frame_read": ([BYTES], reading_answer(
-        "size", awdl.read_frame, show_frame, awdl.Frame(0, 0, 0))),
+        "size", awdl.read_frame, show_frame, awdl.Frame(0, 0, 0, 0))),
     "frame_tail": ([BYTES], tail_answer),
     "frame_write": ([FRAME, BYTES, BUFFER], writing_answer(awdl.write_frame)),
     "offset_in_frame": ([BYTES, ITEM, OFFSET], offset_answer),

@@ -1,5 +1,5 @@
 """One reading of docs/01-scope.md (01), in its order and words, with No. 1,
-No. 2 and No. 4 of docs/02-change-requests.md (02).
+No. 2, No. 4 and No. 7 of docs/02-change-requests.md (02).
 
 It is written from these alone; only the names of bits, and the numbers of types
 and subtypes that 01 does not list, are the Rust's. A reader gives its size
@@ -71,7 +71,7 @@ def put(data, buffer):
 HEADER_SIZE = 12
 ITEM_HEADER_SIZE = 3
 
-Frame = namedtuple("Frame", "subtype phy_tx_time target_tx_time")
+Frame = namedtuple("Frame", "subtype reserved phy_tx_time target_tx_time")
 Item = namedtuple("Item", "at type length")
 
 WHOLE = "whole"
@@ -80,14 +80,15 @@ CUT = "cut"
 
 def read_frame(data):
     """08 10; subtype, one reserved byte, two stamps of 4 bytes; then the tail.
-    The subtype and the reserved byte are one field (02, No. 4)."""
+    The record has gained the reserved byte (02, No. 7); where it does not fit,
+    it belongs to the subtype (02, No. 4)."""
     source = Source(data)
     if source.number(1) != 0x08:
         raise Refused(NOT_ACTION)
     if source.number(1) != 0x10:
         raise Refused(NOT_VERSION)
-    subtype, _ = source.take(2)
-    frame = Frame(subtype, source.number(4), source.number(4))
+    subtype, reserved = source.take(2)
+    frame = Frame(subtype, reserved, source.number(4), source.number(4))
     return source.at, frame
 
 
@@ -97,9 +98,10 @@ def frame_tail(data):
 
 
 def write_frame(frame, tail, buffer):
-    """The reserved byte is written as 0."""
+    """The reserved byte is written again (02, No. 7)."""
+    head = bytes([0x08, 0x10, frame.subtype, frame.reserved])
     stamps = little(frame.phy_tx_time, 4) + little(frame.target_tx_time, 4)
-    return put(bytes([0x08, 0x10, frame.subtype, 0]) + stamps + tail, buffer)
+    return put(head + stamps + tail, buffer)
 
 
 def tx_delta(phy_tx_time, target_tx_time):
@@ -177,7 +179,8 @@ def write_item(kind, data, buffer):
     return put(bytes([kind]) + little(len(data), 2) + data, buffer)
 
 
-# Data path record. Each field but the flags has its presence first.
+# Data path record. Each field but the flags has its presence first. The country
+# is two letters and the pad byte, which the record has gained (02, No. 7).
 
 DATA_PATH_TYPE = 0x0C
 DATA_PATH_SIZES = 2, 57
@@ -192,7 +195,7 @@ DataPath = namedtuple(
 )
 ZERO_DATA_PATH = DataPath(
     flags=0,
-    country=(0, 0, 0),
+    country=(0, 0, 0, 0),
     channel=(0, "single", 0),
     infra_bssid=(0, NO_ADDRESS, 0),
     infra=(0, NO_ADDRESS),
@@ -220,8 +223,7 @@ def read_data_path(data):
     fields = {}
     flags = source.number(2)
     if flags >> 8 & 1:
-        first, second, _ = source.take(3)
-        fields["country"] = 1, first, second
+        fields["country"] = 1, *source.take(3)
     if flags >> 9 & 1:
         fields["channel"] = 1, *channel_of(source.number(2))
     if flags >> 0 & 1:
@@ -277,6 +279,7 @@ def channel_is_right(present, kind, number):
 
 
 def is_consistent(record):
+    """Absent fields are zero, the pad of an absent country too (02, No. 7)."""
     if record.flags != presence_bits(record):
         return False
     if record.ext[0] and not record.options[0]:
@@ -295,7 +298,8 @@ def is_consistent(record):
 
 
 def mend(record):
-    """What the Rust writer does, departure (g) apart."""
+    """What the Rust writer does, departure (g) apart. It zeroes absent fields,
+    the pad of an absent country with its letters (02, No. 7)."""
     fields = [
         field if field[0] else zero for field, zero in zip(record[1:], ZERO_DATA_PATH[1:])
     ]
@@ -309,11 +313,12 @@ def mend(record):
 
 
 def data_path_bytes(record):
+    """The country's pad is written again (02, No. 7)."""
     if not is_consistent(record):
         raise Refused(INCONSISTENT)
     data = little(record.flags, 2)
     if record.country[0]:
-        data += bytes(record.country[1:]) + b"\0"
+        data += bytes(record.country[1:])
     if record.channel[0]:
         data += little(record.channel[2], 2)
     if record.infra_bssid[0]:
@@ -351,7 +356,7 @@ def write_data_path(record, buffer):
 
 FIXED_SIZE = 33
 
-# Name, offset and width; byte 28 is reserved.
+# Name, offset and width; byte 28 is reserved, and a field of the record (02, No. 7).
 FIXED_FIELDS = [
     ("next_channel", 0, 1),
     ("tx_counter", 1, 2),
@@ -369,24 +374,25 @@ FIXED_FIELDS = [
     ("max_af_ext_count", 20, 1),
     ("master_address", 21, 6),
     ("presence_mode", 27, 1),
+    ("reserved", 28, 1),
     ("aw_seq_number", 29, 2),
     ("ap_beacon_alignment_delta", 31, 2),
 ]
 
 
 def fixed_fields(data):
-    """An address is its bytes, every other field a number. Each goes on to the
-    offset of the next: byte 28 belongs to the presence mode (02, No. 4)."""
-    ends = [offset for _, offset, _ in FIXED_FIELDS[1:]] + [FIXED_SIZE]
+    """An address is its bytes, every other field a number. Where byte 28 is not
+    there, the presence mode before it does not fit (02, No. 4)."""
     fields = []
-    for (name, offset, width), end_of_field in zip(FIXED_FIELDS, ends):
-        part = Source(data, offset).take(end_of_field - offset)[:width]
+    for name, offset, width in FIXED_FIELDS:
+        reserved = 1 if name == "presence_mode" else 0
+        part = Source(data, offset).take(width + reserved)[:width]
         fields.append(part if name == "master_address" else int.from_bytes(part, "little"))
     return fields
 
 
 def fixed_bytes(fields):
-    """The reserved byte 28 is written 0."""
+    """All 33, the reserved byte 28 among them (02, No. 7)."""
     data = bytearray(FIXED_SIZE)
     for field, (name, offset, width) in zip(fields, FIXED_FIELDS):
         part = field if name == "master_address" else little(field, width)

@@ -1,10 +1,11 @@
 """Makes questions for docs/ASK.md: random and damaged frames and values, every
 cut of good ones, cuts around the first byte of each field, offsets of short
 values in their frames, places behind the start and past the end, channel
-sequences with wrong counts and encodings, records of every presence, buffers
-short, exact and long, numbers at the limits of their fields, stamps between
-which the clock has rolled over, bytes in every form, bad questions, and lines
-around the longest one.
+sequences with wrong counts and encodings, records of every presence, reserved
+bytes and pads of any value, records that were read and are written again,
+buffers short, exact and long, numbers at the limits of their fields, stamps
+between which the clock has rolled over, bytes in every form, bad questions, and
+lines around the longest one.
 """
 
 import re
@@ -137,7 +138,8 @@ def channel_sequence_value():
 
 def synchronization_value():
     """With its sequence mostly, else with a part of it or with none."""
-    data = R.randbytes(33) + channel_sequence_value()
+    fixed = R.randbytes(27) + bytes([some(255), some(255)]) + R.randbytes(4)
+    data = fixed + channel_sequence_value()
     if chance(1.15):
         return data
     return data[:R.choice((32, 33, 34, 38, 39, 40, 54, 55, 56, 70))]
@@ -201,8 +203,9 @@ def tail():
 def good_frame():
     """Good as a rule: one of its first two bytes is seldom another."""
     first = bytes([some(255) if chance(40) else 0x08, some(255) if chance(40) else 0x10])
+    subtype_and_reserved = bytes([some(255), some(255)])
     phy, target = stamps()
-    return first + R.randbytes(2) + awdl.little(phy, 4) + awdl.little(target, 4) + good_tail()
+    return first + subtype_and_reserved + awdl.little(phy, 4) + awdl.little(target, 4) + good_tail()
 
 
 def frame():
@@ -239,7 +242,8 @@ def words_of(shown):
         return " ".join([word.partition("=")[2] for word in words])
     if chance(60):
         at = R.randrange(len(words))
-        wrong = R.choice(("flags", "at", "", "type", "Flags"))
+        wrong = R.choice((
+            "flags", "at", "", "type", "Flags", "reserved", "reserve", "country_pad", "pad"))
         words[at] = f"{wrong}={words[at].partition('=')[2]}"
     return " ".join([word.partition("=")[2] if chance(2) else word for word in words])
 
@@ -253,7 +257,7 @@ def channel():
 def field(name, present):
     """A field of a data path record, its value not 0 as a rule."""
     if name == "country":
-        return present, some(255), some(255)
+        return present, some(255), some(255), some(255)
     if name == "channel":
         return present, *channel()
     if name == "infra_bssid":
@@ -267,8 +271,15 @@ def field(name, present):
     return present, some(2 ** 32 - 1)
 
 
+def pad_changed(record):
+    """The country's pad alone, also that of a country that is absent (02, No. 7)."""
+    return record._replace(country=(*record.country[:3], some(255)))
+
+
 def spoiled(record):
-    """One field changed: its presence, its value or both."""
+    """One field changed: its presence, its value or both; often a pad alone."""
+    if chance(4):
+        return pad_changed(record)
     name = R.choice(awdl.DataPath._fields)
     if name == "flags":
         return record._replace(flags=record.flags ^ 1 << R.getrandbits(4))
@@ -531,7 +542,7 @@ def value():
 def frame_write():
     data = tail()
     times = f"phy_tx_time={number(2 ** 32 - 1)} target_tx_time={number(2 ** 32 - 1)}"
-    words = words_of(f"subtype={number(255)} {times}")
+    words = words_of(f"subtype={number(255)} reserved={number(255)} {times}")
     return [f"frame_write {words} {spell(data)} {buffer(12 + len(data))}"]
 
 
@@ -558,6 +569,27 @@ def data_path_write():
     record = data_path()
     size = len(awdl.data_path_bytes(record)) if awdl.is_consistent(record) else R.getrandbits(6)
     return [f"data_path_write {data_path_words(record)} {buffer(size)}"]
+
+
+def written_again():
+    """A header or a value that is read, and its record in a writer: what was
+    reserved or a pad is kept (02, No. 7)."""
+    name, read, make, write, show = R.choice((
+        ("frame_read", awdl.read_frame, good_frame, "frame_write", ask.show_frame),
+        ("data_path_read", awdl.read_data_path, data_path_value,
+         "data_path_write", ask.show_data_path),
+        ("synchronization_read", awdl.read_synchronization, synchronization_value,
+         "synchronization_write", ask.show_synchronization),
+    ))
+    data = seldom_damaged(make())
+    lines = [f"{name} {spell(data)}"]
+    try:
+        size, record = read(data)
+    except awdl.Refused:
+        return lines
+    behind_it = f" {spell(data[size:])}" if name == "frame_read" else ""
+    room = buffer(len(data) if name == "frame_read" else size)
+    return [*lines, f"{write} {words_of(show(record))}{behind_it} {room}"]
 
 
 def every_buffer():
@@ -743,7 +775,7 @@ MAKERS = [
     *[channel_sequence_write] * 3, *[sequence_read] * 2, *[sequence_ask] * 2,
     *[sequence_write] * 2, *[sequence_entry] * 2, *[of_channel] * 2, *[small] * 2,
     two_words, listed, *[next_line] * 3, *[field_cut] * 6, header_cut,
-    *[short_in_frame] * 2, *[offset_in_frame] * 3, refusal,
+    *[short_in_frame] * 2, *[offset_in_frame] * 3, refusal, *[written_again] * 4,
 ]
 EVERY = [
     *[every_cut] * 3, *[every_place] * 2, every_buffer, every_channel_sequence_cut,

@@ -5,11 +5,11 @@ use native.Mathlib.Omega.{arith}
 use mathlib.Core.Path.{_≡_, refl}
 use mathlib.Core.List.{[], _∷_}
 use lib.Dec.{eqb}
-use lib.ListN.{getD}
 use Rattle.wire.specs.declared.refusal.Refusal.{Refusal}
 use Rattle.wire.specs.declared.refusal.Refusal.the-variants.{NotAction, NotVersion}
 use Rattle.wire.specs.Refusals.{numberOf}
 use Rattle.wire.specs.Answer.{require}
+use Rattle.wire.specs.Numbers.{pairOf}
 use Rattle.wire.proofs.Lawful.{require-lawful}
 use Rattle.wire.proofs.Gives.{gives-any}
 use Rattle.wire.proofs.Laid.{Laid, laid-asked, laid-bind, laid-give, laid-field-on, laid-number}
@@ -23,6 +23,6 @@ pub header-laid : Laid header (λ f. fieldWidths)
 header-laid =
     laid-bind _ (fixed-laid 0x08 NotAction (λ e. omega arith)) (λ s. gives-any (fixedByte 0x08 NotAction))
     (λ _. laid-bind _ (fixed-laid 0x10 NotVersion (λ e. omega arith)) (λ s. gives-any (fixedByte 0x10 NotVersion))
-    (λ _. laid-field-on 2 (λ bytes. getD bytes 0 0) λ _. laid-number 4 λ _. laid-number 4 λ _. laid-give _ refl)
+    (λ _. laid-field-on 2 pairOf λ _. laid-number 4 λ _. laid-number 4 λ _. laid-give _ refl)
     (λ s _ _. record { of = λ e. refl }))
     (λ s _ _. record { of = λ e. refl })

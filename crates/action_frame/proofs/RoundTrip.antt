@@ -1,12 +1,11 @@
--- What was written of a frame is read back as its header and its tail, since each field is; its reader keeps the laws of every reader.
+-- What was written of a frame is read back as its header and its tail, since each field is.
 -- Assumes nothing.
-use Prim.Native.Nat.{ℕ, _+_, _%_, _<_}
+use Prim.Native.Nat.{ℕ, _+_, _<_}
 use native.Mathlib.Nat.{zero-add}
-use native.Mathlib.Omega.{arith}
 use mathlib.Core.Path.{_≡_, refl, ap, _∙_}
-use mathlib.Core.List.{List, [], _∷_, _++_, append-assoc}
+use mathlib.Core.List.{List, [], _++_, append-assoc}
 use lib.Dec.{eqb, lit<}
-use lib.ListN.{length, getD, take, drop}
+use lib.ListN.{length, take, drop}
 use lib.Seq.{take-at, drop-at}
 use borrow.Author.Tests.{eq-eqb}
 use Rattle.wire.specs.declared.refusal.Refusal.{Refusal}
@@ -15,9 +14,9 @@ use Rattle.wire.specs.Reading.{read}
 use Rattle.wire.specs.Answer.{answer, require}
 use Rattle.wire.specs.Numbers.{littleBytes}
 use Rattle.wire.specs.Writing.{Wrote}
-use Rattle.wire.proofs.ReadsBack.{Back, bind-back, asked-back, made-back, field-back, number-back}
+use Rattle.wire.proofs.ReadsBack.{Back, bind-back, asked-back, made-back, number-back, pair-back}
 use Rattle.action_frame.specs.declared.AWDLActionFrame.{AWDLActionFrame}
-use Rattle.action_frame.specs.Frames.{fixedByte, subtype, subtypeBytes, header, tailOf, headerBytes, bytesOf, InWidth}
+use Rattle.action_frame.specs.Frames.{fixedByte, header, tailOf, headerBytes, bytesOf, InWidth}
 use Rattle.wire.proofs.Bytes.{known-room}
 use Rattle.action_frame.proofs.Sizes.{length-header, length-bytes}
 
@@ -26,17 +25,12 @@ fixed-back value why h =
     let right : require (eqb value value) why ≡ answer tt = rw (eq-eqb value value refl) in
     bind-back _ (number-back 1 value h) (asked-back right)
 
-subtype-back : (v : ℕ) → v < 256 → Back subtype (subtypeBytes v) v
-subtype-back v h =
-    let same : v % 256 ≡ v = omega arith in
-    rw same (made-back (λ bytes. getD bytes 0 0) (field-back 2 (v ∷ 0 ∷ []) refl))
-
 pub header-back : (f : AWDLActionFrame) → InWidth f → Back header (headerBytes f) f
 unfolding headerBytes
 header-back f w =
     bind-back _ (fixed-back 0x08 NotAction (lit< tt))
     (bind-back _ (fixed-back 0x10 NotVersion (lit< tt))
-    (bind-back _ (subtype-back (f .subtype) (w .subtype))
+    (bind-back _ (pair-back (f .subtype) (f .reserved) (w .subtype) (w .reserved))
     (bind-back _ (number-back 4 (f .«phy_tx_time» .0) (w .phy))
     (made-back _ (number-back 4 (f .«target_tx_time» .0) (w .target))))))
 

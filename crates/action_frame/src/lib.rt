@@ -25,6 +25,8 @@ pub struct TargetTxTime(pub u32);
 
 pub struct AWDLActionFrame {
     pub subtype: u8,
+    // What it means is not known, so it is written again as it was read.
+    pub reserved: u8,
     pub phy_tx_time: PhyTxTime,
     pub target_tx_time: TargetTxTime,
 }
@@ -46,9 +48,6 @@ pub enum InFrame {
 const FIRST: u8 = 0x08;
 
 const SECOND: u8 = 0x10;
-
-// What is written behind the subtype.
-const RESERVED: u8 = 0;
 
 impl AWDLActionFrame {
     // Periodic synchronization and master indication. Any other subtype is read and written too.
@@ -147,27 +146,29 @@ fn fixed_byte(s: &[u8], at: usize, value: u8, why: Refusal) -> Place
     }
 }
 
-fn header_of(subtype: u8, phy: u32, target: u32) -> AWDLActionFrame
-    ensures { λ r. ⌜ r ≡ headerOf subtype phy target ⌝ }
+fn header_of(subtype: u8, reserved: u8, phy: u32, target: u32) -> AWDLActionFrame
+    ensures { λ r. ⌜ r ≡ headerOf subtype reserved phy target ⌝ }
 {
     AWDLActionFrame {
         subtype,
+        reserved,
         phy_tx_time: PhyTxTime(phy),
         target_tx_time: TargetTxTime(target),
     }
 }
 
-// What stands behind the pair. The subtype is read with the reserved byte, which is then dropped.
+// What stands behind the two fixed bytes. The subtype and the reserved byte are one field.
 fn fields_at(s: &[u8], at: usize) -> ReadFrame
     ensures { λ r. ⌜ saidFrame r ≡ fields (now (s .entry)) at ⌝ }
 {
     match wire::field_at(s, at, 2) {
-        Place::At(behind_subtype) => {
+        Place::At(behind_reserved) => {
             let subtype = s[at];
-            match wire::u32_at(s, behind_subtype) {
+            let reserved = s[at + 1];
+            match wire::u32_at(s, behind_reserved) {
                 ReadU32::Read(phy, behind_phy) => match wire::u32_at(s, behind_phy) {
                     ReadU32::Read(target, behind_target) => {
-                        ReadFrame::Read(header_of(subtype, phy, target), behind_target)
+                        ReadFrame::Read(header_of(subtype, reserved, phy, target), behind_target)
                     }
                     ReadU32::Refused(why) => ReadFrame::Refused(why),
                 },
@@ -188,7 +189,7 @@ fn put_header(buf: &mut [u8], f: AWDLActionFrame) -> usize
     let behind_first = wire::put_u8(buf, 0, FIRST);
     let behind_second = wire::put_u8(buf, behind_first, SECOND);
     let behind_subtype = wire::put_u8(buf, behind_second, f.subtype);
-    let behind_reserved = wire::put_u8(buf, behind_subtype, RESERVED);
+    let behind_reserved = wire::put_u8(buf, behind_subtype, f.reserved);
     let behind_phy = wire::put_u32(buf, behind_reserved, phy.0);
     wire::put_u32(buf, behind_phy, target.0)
 }

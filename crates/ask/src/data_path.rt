@@ -35,6 +35,31 @@ use data_path_state::ReadDataPathState;
 use data_path_state::UnicastOptions;
 use wire::Size;
 
+// Where the parts of a record stand among the numbers of a question, each behind the one before it. Behind them stands how long the buffer is.
+const COUNTRY: usize = 1;
+
+const CHANNEL: usize = COUNTRY + 4;
+
+const BSSID: usize = CHANNEL + 3;
+
+const INFRA: usize = BSSID + 3;
+
+const AWDL: usize = INFRA + 2;
+
+const OPTIONS: usize = AWDL + 2;
+
+const EXT: usize = OPTIONS + 2;
+
+const EXTENDED: usize = EXT + 2;
+
+const RLFC: usize = EXTENDED + 2;
+
+const TRIGGER: usize = RLFC + 2;
+
+const STATS: usize = TRIGGER + 2;
+
+pub(crate) const ROOM: usize = STATS + 4;
+
 fn channel_of(kind: u64, n: u64) -> DataPathChannel {
     if kind == 0 {
         return DataPathChannel::SingleChannel(byte(n));
@@ -44,24 +69,25 @@ fn channel_of(kind: u64, n: u64) -> DataPathChannel {
 
 fn country(v: &[u64; 32]) -> CountryCode {
     CountryCode {
-        present: flag_at(v, 1),
-        first: byte_at(v, 2),
-        second: byte_at(v, 3),
+        present: flag_at(v, COUNTRY),
+        first: byte_at(v, COUNTRY + 1),
+        second: byte_at(v, COUNTRY + 2),
+        pad: byte_at(v, COUNTRY + 3),
     }
 }
 
 fn channel(v: &[u64; 32]) -> OptionalChannel {
     OptionalChannel {
-        present: flag_at(v, 4),
-        channel: channel_of(number_at(v, 5), number_at(v, 6)),
+        present: flag_at(v, CHANNEL),
+        channel: channel_of(number_at(v, CHANNEL + 1), number_at(v, CHANNEL + 2)),
     }
 }
 
 fn infra(v: &[u64; 32]) -> InfraBssidChannel {
     InfraBssidChannel {
-        present: flag_at(v, 7),
-        bssid: address_of(number_at(v, 8)),
-        channel: word_at(v, 9),
+        present: flag_at(v, BSSID),
+        bssid: address_of(number_at(v, BSSID + 1)),
+        channel: word_at(v, BSSID + 2),
     }
 }
 
@@ -74,8 +100,8 @@ fn address(present: bool, n: u64) -> OptionalAddress {
 
 fn options(v: &[u64; 32]) -> OptionalOptions {
     OptionalOptions {
-        present: flag_at(v, 14),
-        options: UnicastOptions(long_at(v, 15)),
+        present: flag_at(v, OPTIONS),
+        options: UnicastOptions(long_at(v, OPTIONS + 1)),
     }
 }
 
@@ -88,25 +114,25 @@ fn optional(present: bool, n: u64) -> OptionalWord {
 
 fn extended(v: &[u64; 32]) -> OptionalExtendedFlags {
     OptionalExtendedFlags {
-        present: flag_at(v, 18),
-        flags: DataPathExtendedFlags(word_at(v, 19)),
+        present: flag_at(v, EXTENDED),
+        flags: DataPathExtendedFlags(word_at(v, EXTENDED + 1)),
     }
 }
 
 fn trigger(v: &[u64; 32]) -> OptionalTriggerId {
     OptionalTriggerId {
-        present: flag_at(v, 22),
-        id: word_at(v, 23),
+        present: flag_at(v, TRIGGER),
+        id: word_at(v, TRIGGER + 1),
     }
 }
 
 fn stats(v: &[u64; 32]) -> OptionalStats {
     OptionalStats {
-        present: flag_at(v, 24),
+        present: flag_at(v, STATS),
         stats: DataPathStats {
-            msec_since_activation: long_at(v, 25),
-            aw_seq_counter: long_at(v, 26),
-            pay_update_coutner: long_at(v, 27),
+            msec_since_activation: long_at(v, STATS + 1),
+            aw_seq_counter: long_at(v, STATS + 2),
+            pay_update_coutner: long_at(v, STATS + 3),
         },
     }
 }
@@ -117,12 +143,12 @@ fn record_of(v: &[u64; 32]) -> DataPathStateTLV {
         country_code: country(v),
         channel_map: channel(v),
         infra_bssid_channel: infra(v),
-        infra_address: address(flag_at(v, 10), number_at(v, 11)),
-        awdl_address: address(flag_at(v, 12), number_at(v, 13)),
+        infra_address: address(flag_at(v, INFRA), number_at(v, INFRA + 1)),
+        awdl_address: address(flag_at(v, AWDL), number_at(v, AWDL + 1)),
         unicast_options: options(v),
-        unicast_options_ext: optional(flag_at(v, 16), number_at(v, 17)),
+        unicast_options_ext: optional(flag_at(v, EXT), number_at(v, EXT + 1)),
         extended_flags: extended(v),
-        rlfc: optional(flag_at(v, 20), number_at(v, 21)),
+        rlfc: optional(flag_at(v, RLFC), number_at(v, RLFC + 1)),
         log_trigger_id: trigger(v),
         stats: stats(v),
     }
@@ -176,6 +202,7 @@ pub(crate) fn numbers_of(r: DataPathStateTLV) -> Numbers {
         .flag(country.present)
         .byte(country.first)
         .byte(country.second)
+        .byte(country.pad)
         .flag(map.present)
         .channel(channel)
         .flag(infra.present)

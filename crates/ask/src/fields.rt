@@ -31,15 +31,15 @@ pub(crate) fn put_lists(buf: &mut [u8; 2048]) -> usize {
         1encoding= 1first= 1second=\n\
         1encoding= sbytes=\n\
         1duplicate_count= 1step_count= 2fill_channel= 1encoding= sbytes=\n\
-        1subtype= 4phy_tx_time= 4target_tx_time=\n\
-        2flags= pcountry_code= 1country_first= 1country_second= pchannel_map= kchannel_kind= cchannel= \
+        1subtype= 1reserved= 4phy_tx_time= 4target_tx_time=\n\
+        2flags= pcountry_code= 1country_first= 1country_second= 1country_pad= pchannel_map= kchannel_kind= cchannel= \
         pinfra_bssid_channel= ainfra_bssid= 2infra_channel= pinfra_address= ainfra= pawdl_address= aawdl= \
         punicast_options= 4options= punicast_options_ext= 4ext= pextended_flags= 2extended= prlfc= \
         4rlfc_word= plog_trigger_id= 2trigger_id= pstats= 4msec_since_activation= 4aw_seq_counter= \
         4pay_update_coutner=\n\
         1next_channel= 2tx_counter= 1master_channel= 1guard_time= 2aw_period= 2af_period= 2awdl_flags= \
         2aw_ext_length= 2aw_common_length= 2remaining_aw_length= 1min_ext_count= 1max_multicast_ext_count= \
-        1max_unicast_ext_count= 1max_af_ext_count= amaster_address= 1presence_mode= 2aw_seq_number= \
+        1max_unicast_ext_count= 1max_af_ext_count= amaster_address= 1presence_mode= 1reserved= 2aw_seq_number= \
         2ap_beacon_alignment_delta= 1duplicate_count= 1step_count= 2fill_channel= 1encoding= sbytes=",
     )
 }

@@ -22,22 +22,31 @@ use action_frame::TargetTxTime;
 use wire::Refusal;
 use wire::Size;
 
+// Behind the numbers of the record stands how long the tail is, and then how long the buffer is.
+const TAIL: usize = 4;
+
+pub(crate) const ROOM: usize = TAIL + 1;
+
 fn record_of(v: &[u64; 32]) -> AWDLActionFrame {
     AWDLActionFrame {
         subtype: byte_at(v, 0),
-        phy_tx_time: PhyTxTime(long_at(v, 1)),
-        target_tx_time: TargetTxTime(long_at(v, 2)),
+        reserved: byte_at(v, 1),
+        phy_tx_time: PhyTxTime(long_at(v, 2)),
+        target_tx_time: TargetTxTime(long_at(v, 3)),
     }
 }
 
 fn numbers_of(f: AWDLActionFrame) -> Numbers {
     let phy = f.phy_tx_time;
     let target = f.target_tx_time;
-    none().byte(f.subtype).long(phy.0).long(target.0)
+    none().byte(f.subtype)
+        .byte(f.reserved)
+        .long(phy.0)
+        .long(target.0)
 }
 
 pub(crate) fn write(v: &[u64; 32], given: &[u8], buf: &mut [u8]) -> Size {
-    record_of(v).write(first(given, size_at(v, 3)), buf)
+    record_of(v).write(first(given, size_at(v, TAIL)), buf)
 }
 
 fn read(frame: &[u8]) -> Said {

@@ -29,9 +29,9 @@ fn lend_part(call: usize, v: &[u64; 32], given: &[u8], lent: &mut [u8], room: us
 // The buffer is the last argument, and its number of bytes stands at a place of its own for each writer.
 fn place_of_room(call: usize) -> usize {
     match call {
-        calls::FRAME_WRITE => 4,
-        calls::DATA_PATH_WRITE => 28,
-        calls::SYNCHRONIZATION_WRITE => 23,
+        calls::FRAME_WRITE => crate::frames::ROOM,
+        calls::DATA_PATH_WRITE => crate::data_path::ROOM,
+        calls::SYNCHRONIZATION_WRITE => crate::synchronization::ROOM,
         calls::CHANNEL_SEQUENCE_WRITE => 5,
         _ => 2,
     }

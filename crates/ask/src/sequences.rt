@@ -31,7 +31,7 @@ fn sequence_of(encoding: u8, given: &[u8]) -> ChannelSequence {
 
 // The record whose numbers stand from a place on: a synchronization record has them at its end.
 pub(crate) fn record_of(v: &[u64; 32], from: usize, given: &[u8]) -> ChannelSequenceTLV
-    requires { ⌜ from ≤ 18 ⌝ }
+    requires { ⌜ from ≤ 28 ⌝ }
 {
     ChannelSequenceTLV {
         duplicate_count: byte_at(v, from),

@@ -15,6 +15,11 @@ use crate::words::first;
 use synchronization_parameters::SynchronizationParametersTLV;
 use wire::Size;
 
+// Behind the numbers of the record's own fields stand the five of its sequence, and then how long the buffer is.
+const CHANNELS: usize = 19;
+
+pub(crate) const ROOM: usize = CHANNELS + 5;
+
 fn record_of(v: &[u64; 32], given: &[u8]) -> SynchronizationParametersTLV {
     SynchronizationParametersTLV {
         next_channel: byte_at(v, 0),
@@ -33,9 +38,10 @@ fn record_of(v: &[u64; 32], given: &[u8]) -> SynchronizationParametersTLV {
         max_af_ext_count: byte_at(v, 13),
         master_address: address_of(number_at(v, 14)),
         presence_mode: byte_at(v, 15),
-        aw_seq_number: word_at(v, 16),
-        ap_beacon_alignment_delta: word_at(v, 17),
-        channel_sequence: sequences::record_of(v, 18, given),
+        reserved: byte_at(v, 16),
+        aw_seq_number: word_at(v, 17),
+        ap_beacon_alignment_delta: word_at(v, 18),
+        channel_sequence: sequences::record_of(v, CHANNELS, given),
     }
 }
 
@@ -58,6 +64,7 @@ pub(crate) fn numbers_of(p: SynchronizationParametersTLV) -> Numbers {
         .byte(p.max_af_ext_count)
         .address(master_address)
         .byte(p.presence_mode)
+        .byte(p.reserved)
         .word(p.aw_seq_number)
         .word(p.ap_beacon_alignment_delta)
         .channel_sequence(channels)

@@ -26,13 +26,13 @@ use Rattle.data_path_fields.specs.declared.read.Body.{Body}
 use Rattle.data_path_fields.specs.Words.{extendedKept, optionsKept, channelOf}
 
 abbrev pub noCountry : CountryCode
-noCountry = record { present = false; first = 0; second = 0 }
+noCountry = record { present = false; first = 0; second = 0; pad = 0 }
 
--- two letters and a pad byte are one field, and the pad is dropped
+-- two letters and a pad byte, which is kept, are one field
 abbrev pub country : Reader CountryCode
 country = do
-  letters ← field 3
-  give (record { present = true; first = getD letters 0 0; second = getD letters 1 0 })
+  bytes ← field 3
+  give (record { present = true; first = getD bytes 0 0; second = getD bytes 1 0; pad = getD bytes 2 0 })
 
 abbrev pub noChannel : OptionalChannel
 noChannel = record { present = false; channel = DataPathChannel.SingleChannel 0 }

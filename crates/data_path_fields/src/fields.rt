@@ -108,6 +108,8 @@ pub struct CountryCode {
     pub present: bool,
     pub first: u8,
     pub second: u8,
+    // It is written again as it was read, and any byte is right where the country is there.
+    pub pad: u8,
 }
 
 pub struct OptionalChannel {

@@ -40,6 +40,7 @@ fn country_code(s: &[u8], at: usize, present: bool) -> ReadCountry
                 present: false,
                 first: 0,
                 second: 0,
+                pad: 0,
             },
             at,
         );
@@ -50,6 +51,7 @@ fn country_code(s: &[u8], at: usize, present: bool) -> ReadCountry
                 present: true,
                 first: s[at],
                 second: s[at + 1],
+                pad: s[at + 2],
             },
             next,
         ),

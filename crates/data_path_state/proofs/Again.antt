@@ -7,7 +7,7 @@ use mathlib.Core.Bool.{Bool, true, false, cond}
 use mathlib.Core.List.{List, [], _∷_, _++_, append-assoc}
 use lib.Bits.{bitAnd, and-block, and-mask, and-le-r}
 use lib.Dec.{eqb}
-use lib.ListN.{getD, take}
+use lib.ListN.{getD}
 use borrow.Author.Tests.{eqb-true}
 use Rattle.wire.specs.declared.refusal.Refusal.the-variants.{UnicastLength}
 use Rattle.wire.specs.Reading.{Reader, read, field, give, refuse, when, _>>=_}
@@ -25,7 +25,7 @@ use Rattle.data_path_fields.specs.Fields.{noUnicast, unicast, triggerId, stats,
 use Rattle.data_path_state.specs.declared.data_path_state_tlv.DataPathStateTLV.{DataPathStateTLV}
 use Rattle.data_path_state.specs.DataPath.{dataPath}
 use Rattle.data_path_state.specs.Bytes.{countryBytes, channelBytes, infraBytes, oneAddressBytes, wordBytes, triggerIdBytes, statsBytes, recordBytes}
-use Rattle.data_path_state.specs.Rewritten.{countryAgain, channelByte, channelAgain, optionsAgain, unicastAgain, wordAgain, extendedAgain, rewritten}
+use Rattle.data_path_state.specs.Rewritten.{channelByte, channelAgain, optionsAgain, unicastAgain, wordAgain, extendedAgain, rewritten}
 use Rattle.data_path_state.proofs.Masks.{kept-extended-mask, kept-options-mask}
 
 low-byte : (n low : ℕ) → n ≡ low → low < 256 → littleBytes 2 n ≡ low ∷ 0 ∷ []
@@ -125,10 +125,8 @@ laid-out : (flags country channel bssid infra awdl unicast extended : List ℕ) 
 laid-out flags country channel bssid infra awdl unicast extended e = rw (← e) (simp append-assoc)
 
 module _ {s : List ℕ} (octets : Octets s) where
-  country-again : Again s country countryAgain countryBytes
-  country-again =
-      again-bind (gives-field octets 3) λ letters p.
-      again-give (ap (λ (b : List ℕ). take 2 b ++ (0 ∷ [])) (by-place 3 letters (p .size)))
+  country-again : Again s country (field 3) countryBytes
+  country-again = again-end (again-bind (gives-field octets 3) λ bytes p. again-give (by-place 3 bytes (p .size)))
 
   channel-again : Again s channelWord channelAgain channelBytes
   channel-again = again-number octets 2 _ λ word p. again-give (channel-bytes word p)

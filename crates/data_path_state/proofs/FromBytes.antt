@@ -40,7 +40,7 @@ head-octets r h =
     let w = r .«channel_map» in
     octets-append
     (octets-append (octets-little 2 (r .flags .0))
-    (octets-cond (c .present) (octets-cons (h .first) (octets-cons (h .second) (octets-cons (lit< tt) octets-none)))))
+    (octets-cond (c .present) (octets-cons (h .first) (octets-cons (h .second) (octets-cons (h .pad) octets-none)))))
     (octets-cond (w .present) (octets-little 2 (wordOf (w .channel))))
 
 addresses-octets : (r : DataPathStateTLV) → Ranges r → Octets (addressesBytes r)
@@ -96,8 +96,8 @@ record ExtendedRanges (x : Extended) : Type 0 where
 
 -- what each field is, read of octets
 module _ {s : List ℕ} (octets : Octets s) where
-  country-ranges : Gives s country (λ c. (c .first < 256) × (c .second < 256))
-  country-ranges = gives-bind (gives-field octets 3) λ letters p. gives-give _ (p .octets .small 0, p .octets .small 1)
+  country-ranges : Gives s country (λ c. (c .first < 256) × (c .second < 256) × (c .pad < 256))
+  country-ranges = gives-bind (gives-field octets 3) λ bytes p. gives-give _ (p .octets .small 0, p .octets .small 1, p .octets .small 2)
 
   channel-ranges : Gives s channelWord (λ c. wordOf (c .channel) < 256 ^ 2)
   channel-ranges = gives-bind (gives-any (number 2)) λ word _. gives-give _ (channel-range word)
@@ -138,7 +138,7 @@ module _ {s : List ℕ} (octets : Octets s) where
   data-path-ranges : Gives s dataPath Ranges
   data-path-ranges =
       gives-group (number 2) _ _ (gives-bind (gives-number octets 2) λ flags f.
-      gives-optional (bit 8 flags) noCountry _ _ country-ranges (lit< tt, lit< tt) λ country c.
+      gives-optional (bit 8 flags) noCountry _ _ country-ranges (lit< tt, lit< tt, lit< tt) λ country c.
       gives-optional (bit 9 flags) noChannel _ _ channel-ranges (lit< tt) λ channel w.
       gives-group (addresses flags) _ _
       (gives-optional (bit 0 flags) noInfra _ _ infra-ranges (no-address, lit< tt) λ bssid b.
@@ -151,6 +151,7 @@ module _ {s : List ℕ} (octets : Octets s) where
         flags = f;
         first = c .0;
         second = c .1;
+        pad = c .2;
         channel = w;
         bssid = b .0 .small;
         infra = b .1;

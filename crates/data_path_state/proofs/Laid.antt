@@ -74,7 +74,7 @@ abbrev pub bodyWidths : Body → List ℕ
 bodyWidths b = addressesWidths (b .addresses) ++ (unicastWidths (b .unicast) ++ extendedWidths (b .extended))
 
 country-laid : Laid country countryWidths
-country-laid = laid-there _ (laid-field 3) (λ letters. refl)
+country-laid = laid-there _ (laid-field 3) (λ bytes. refl)
 
 channel-laid : Laid channelWord channelWidths
 channel-laid = laid-there _ (laid-made 2 little) (λ word. refl)

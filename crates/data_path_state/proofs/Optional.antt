@@ -2,7 +2,7 @@
 -- Assumes nothing.
 use Rattle.wire.proofs.Tests.{other}
 use Rattle.data_path_state.proofs.Facts.{each-zero}
-use Rattle.data_path_state.specs.Consistent.{isZeroAddress, isZeroChannel, isZeroStats}
+use Rattle.data_path_state.specs.Consistent.{isZeroCountry, isZeroAddress, isZeroChannel, isZeroStats}
 use Rattle.data_path_fields.specs.Fields.{noCountry, noChannel, noInfra, noAddress, noWord, noTriggerId, noStats}
 use Rattle.data_path_fields.specs.declared.fields.CountryCode.{CountryCode}
 use Rattle.data_path_fields.specs.declared.fields.InfraBssidChannel.{InfraBssidChannel}
@@ -68,12 +68,12 @@ abbrev pub country-kind : Kind CountryCode
 country-kind =
     record {
       there = λ c. c .present;
-      zero = λ c. eqb (c .first) 0 && eqb (c .second) 0;
+      zero = isZeroCountry;
       none = noCountry;
       none-there = refl;
       none-zero = refl;
-      only-none = λ c e z. let n = each-zero (c .first ∷ c .second ∷ []) z in
-          λ i. record { present = e i; first = n 0 i; second = n 1 i };
+      only-none = λ c e z. let n = each-zero (c .first ∷ c .second ∷ c .pad ∷ []) z in
+          λ i. record { present = e i; first = n 0 i; second = n 1 i; pad = n 2 i };
     }
 
 pub zero-channel : (c : DataPathChannel) → isZeroChannel c ≡ true → c ≡ DataPathChannel.SingleChannel 0

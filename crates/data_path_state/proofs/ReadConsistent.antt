@@ -28,7 +28,7 @@ use Rattle.data_path_fields.specs.Fields.{noCountry, noChannel, head, noInfra, 
 use Rattle.data_path_fields.specs.Fields.{noTriggerId, noStats, stats, noExtended, extendedOf, extended, body}
 use Rattle.data_path_state.specs.declared.data_path_state_tlv.DataPathStateTLV.{DataPathStateTLV}
 use Rattle.data_path_state.specs.DataPath.{recordOf, dataPath}
-use Rattle.data_path_state.specs.Consistent.{isZeroAddress, isZeroChannel, isZeroStats, channelRight, consistent}
+use Rattle.data_path_state.specs.Consistent.{isZeroCountry, isZeroAddress, isZeroChannel, isZeroStats, channelRight, consistent}
 
 -- there exactly where the bit is set, and zero elsewhere
 abbrev Is : Bool → Bool → Bool → Type 0
@@ -47,16 +47,16 @@ right-channel w = go (bit 0 w) refl
         rw (eq-eqb (w % 2 ^ 8 % 2) 0 (omega arith), le-leb (w % 2 ^ 8) 254 (omega arith))
 
 record HeadRight (h : Head) : Type 0 where
-  country : Is (bit 8 (h .flags)) (h .country .present) (eqb (h .country .first) 0 && eqb (h .country .second) 0)
+  country : Is (bit 8 (h .flags)) (h .country .present) (isZeroCountry (h .country))
   channel : Is (bit 9 (h .flags)) (h .channel .present) (isZeroChannel (h .channel .channel))
   right : channelRight (h .channel .channel) ≡ true
 
 head-gives : {s : List ℕ} → Gives s head HeadRight
 head-gives =
     gives-bind (gives-any (number 2)) λ flags _.
-    gives-bind {Q = λ c. Is (bit 8 flags) (c .present) (eqb (c .first) 0 && eqb (c .second) 0)}
+    gives-bind {Q = λ c. Is (bit 8 flags) (c .present) (isZeroCountry c)}
     (gives-when (bit 8 flags) noCountry
-    (λ e. gives-bind (gives-any (field 3)) λ letters _. gives-give _ (e, refl))
+    (λ e. gives-bind (gives-any (field 3)) λ bytes _. gives-give _ (e, refl))
     (λ e. (e, refl))) λ country c.
     gives-bind {Q = λ w. Is (bit 9 flags) (w .present) (isZeroChannel (w .channel)) × (channelRight (w .channel) ≡ true)}
     (gives-when (bit 9 flags) noChannel

@@ -11,7 +11,7 @@ use Rattle.data_path_state.proofs.Optional as O
 use Rattle.data_path_state.specs.declared.data_path_state_tlv.DataPathStateTLV.{DataPathStateTLV}
 use Rattle.data_path_fields.specs.Fields.{noCountry, noChannel, noInfra, noAddress, noOptions, noWord, noExtendedFlags, noTriggerId, noStats}
 use Rattle.data_path_state.specs.Consistent.{flagsMatch, extendedMatch, onlyWith, channelRight, wordsKept, absentZero, consistent}
-use Rattle.data_path_state.specs.Consistent.{isZeroAddress, isZeroChannel, isZeroStats}
+use Rattle.data_path_state.specs.Consistent.{isZeroCountry, isZeroAddress, isZeroChannel, isZeroStats}
 
 pub record Right (r : DataPathStateTLV) : Type 0 where
   pub flags : flagsMatch r ≡ true
@@ -83,7 +83,7 @@ pub record Gone (r : DataPathStateTLV) : Type 0 where
 
 pub gone : {r : DataPathStateTLV} → Right r → Gone r
 gone {r} w =
-    let z = each (r .«country_code» .present || eqb (r .«country_code» .first) 0 && eqb (r .«country_code» .second) 0)
+    let z = each (r .«country_code» .present || isZeroCountry (r .«country_code»))
     ((r .«channel_map» .present || isZeroChannel (r .«channel_map» .channel))
     ∷ (r .«infra_bssid_channel» .present || isZeroAddress (r .«infra_bssid_channel» .bssid) && eqb (r .«infra_bssid_channel» .channel) 0)
     ∷ (r .«infra_address» .present || isZeroAddress (r .«infra_address» .address))

@@ -41,10 +41,10 @@ use Rattle.data_path_state.proofs.Right.{Right, right, presence-announc
 use Rattle.data_path_state.specs.Ranges.{Ranges}
 use Rattle.data_path_state.proofs.Sizes.{length-record}
 
-country-back : (c : CountryCode) → c .present ≡ true → Back country (c .first ∷ c .second ∷ 0 ∷ []) c
+country-back : (c : CountryCode) → c .present ≡ true → Back country (c .first ∷ c .second ∷ c .pad ∷ []) c
 country-back c p =
-    let bytes : List ℕ = c .first ∷ c .second ∷ 0 ∷ [] in
-    subst (λ (x : CountryCode). Back country bytes x) (λ i. record { present = sym p i; first = c .first; second = c .second })
+    let bytes : List ℕ = c .first ∷ c .second ∷ c .pad ∷ [] in
+    subst (λ (x : CountryCode). Back country bytes x) (λ i. record { present = sym p i; first = c .first; second = c .second; pad = c .pad })
     (made-back _ (field-back 3 bytes refl))
 
 -- the channel word of a right channel is that channel again

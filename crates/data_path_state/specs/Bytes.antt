@@ -18,9 +18,8 @@ use Rattle.data_path_state.specs.declared.data_path_state_tlv.DataPathSt
 use Rattle.data_path_fields.specs.Words.{wordOf}
 use Rattle.data_path_state.specs.Consistent.{consistent}
 
--- two letters, and a pad byte that is 0
 abbrev pub countryBytes : CountryCode → List ℕ
-countryBytes c = cond (c .present) (c .first ∷ c .second ∷ 0 ∷ []) []
+countryBytes c = cond (c .present) (c .first ∷ c .second ∷ c .pad ∷ []) []
 
 abbrev pub channelBytes : OptionalChannel → List ℕ
 channelBytes c = cond (c .present) (littleBytes 2 (wordOf (c .channel))) []

@@ -8,6 +8,7 @@ use Rattle.wire.specs.Numbers.{bit}
 use Rattle.wire.specs.Words.{wordBy}
 use Rattle.data_path_fields.specs.declared.misc.DataPathChannel.{DataPathChannel}
 use Rattle.data_path_fields.specs.declared.misc.DataPathStats.{DataPathStats}
+use Rattle.data_path_fields.specs.declared.fields.CountryCode.{CountryCode}
 use Rattle.data_path_state.specs.declared.data_path_state_tlv.DataPathStateTLV.{DataPathStateTLV}
 use Rattle.data_path_fields.specs.Words.{extendedKept, optionsKept}
 
@@ -50,6 +51,9 @@ wordsKept r =
     eqb (wordBy extendedKept (r .«extended_flags» .flags .0)) (r .«extended_flags» .flags .0)
     && eqb (wordBy optionsKept (r .«unicast_options» .options .0)) (r .«unicast_options» .options .0)
 
+abbrev pub isZeroCountry : CountryCode → Bool
+isZeroCountry c = eqb (c .first) 0 && eqb (c .second) 0 && eqb (c .pad) 0
+
 abbrev pub isZeroAddress : MACAddress → Bool
 isZeroAddress a = eqb (a .0) 0 && eqb (a .1) 0 && eqb (a .2) 0 && eqb (a .3) 0 && eqb (a .4) 0 && eqb (a .5) 0
 
@@ -63,7 +67,7 @@ isZeroStats s = eqb (s .«msec_since_activation») 0 && eqb (s .«aw_seq_counter
 -- a field that is not there has the value zero
 abbrev pub absentZero : DataPathStateTLV → Bool
 absentZero r =
-    (r .«country_code» .present || eqb (r .«country_code» .first) 0 && eqb (r .«country_code» .second) 0)
+    (r .«country_code» .present || isZeroCountry (r .«country_code»))
     && (r .«channel_map» .present || isZeroChannel (r .«channel_map» .channel))
     && (r .«infra_bssid_channel» .present || isZeroAddress (r .«infra_bssid_channel» .bssid) && eqb (r .«infra_bssid_channel» .channel) 0)
     && (r .«infra_address» .present || isZeroAddress (r .«infra_address» .address))

@@ -9,6 +9,7 @@ pub record Ranges (r : DataPathStateTLV) : Type 0 where
   pub flags : r .flags .0 < 256 ^ 2
   pub first : r .«country_code» .first < 256
   pub second : r .«country_code» .second < 256
+  pub pad : r .«country_code» .pad < 256
   pub channel : wordOf (r .«channel_map» .channel) < 256 ^ 2
   pub bssid : (i : ℕ) → getD (addressBytes (r .«infra_bssid_channel» .bssid)) i 0 < 256
   pub infra : r .«infra_bssid_channel» .channel < 256 ^ 2

@@ -1,23 +1,17 @@
--- What of a value comes back when its record is written again: its bytes in their order, each field as it stands. Only the pad byte, what a
--- channel word carries beside its channel, and the dropped bits of the options and of the extended word come back as 0.
+-- What of a value comes back when its record is written again: its bytes in their order, each field as it stands. Only what a channel word
+-- carries beside its channel, and the dropped bits of the options and of the extended word, come back as 0.
 use Prim.Native.Nat.{ℕ, _%_, _^_}
 use mathlib.Core.Bool.{cond}
 use mathlib.Core.List.{List, [], _∷_, _++_}
 use lib.Bits.{bitAnd}
 use lib.Dec.{eqb}
-use lib.ListN.{getD, take, drop}
+use lib.ListN.{getD, drop}
 use Rattle.wire.specs.Reading.{Reader, field, give, when, _>>=_}
 use Rattle.wire.specs.Numbers.{little, bit}
 
 -- bytes that stand where a bit of a word is set
 abbrev pub whereBit : ℕ → List ℕ → Reader (List ℕ) → Reader (List ℕ)
 whereBit k word = when (bit k (little word)) []
-
--- the pad byte is 0
-abbrev pub countryAgain : Reader (List ℕ)
-countryAgain = do
-  letters ← field 3
-  give (take 2 letters ++ (0 ∷ []))
 
 -- a map, whose low byte is odd, keeps the low three bits of that byte, and a single channel all of it
 abbrev pub channelByte : ℕ → ℕ
@@ -56,7 +50,7 @@ extendedAgain = do
 abbrev pub rewritten : Reader (List ℕ)
 rewritten = do
   flags ← field 2
-  country ← whereBit 8 flags countryAgain
+  country ← whereBit 8 flags (field 3)
   channel ← whereBit 9 flags channelAgain
   bssid ← whereBit 0 flags (field 8)
   infra ← whereBit 1 flags (field 6)

@@ -3,6 +3,7 @@ ghost use mathlib.Core.Bool.{_&&_};
 ghost use Rattle.data_path_state.specs.Consistent as C;
 use crate::data_path_state_tlv::DataPathStateTLV;
 use data_path_fields::ChannelMap;
+use data_path_fields::CountryCode;
 use data_path_fields::DataPathChannel;
 use data_path_fields::DataPathExtendedFlags;
 use data_path_fields::DataPathFlags;
@@ -56,6 +57,12 @@ pub(crate) fn words_kept(r: DataPathStateTLV) -> bool
         & (UnicastOptions::from_bits(options).0 == options)
 }
 
+fn is_zero_country(c: CountryCode) -> bool
+    ensures { λ t. ⌜ t ≡ C.isZeroCountry c ⌝ }
+{
+    (c.first == 0) & (c.second == 0) & (c.pad == 0)
+}
+
 fn is_zero_address(a: MACAddress) -> bool
     ensures { λ t. ⌜ t ≡ C.isZeroAddress a ⌝ }
 {
@@ -82,7 +89,7 @@ pub(crate) fn absent_zero(r: DataPathStateTLV) -> bool
 {
     let word = r.channel_map;
     let channel = word.channel;
-    (r.country_code.present | ((r.country_code.first == 0) & (r.country_code.second == 0)))
+    (r.country_code.present | is_zero_country(r.country_code))
         & (word.present | is_zero_channel(channel))
         & (r.infra_bssid_channel.present
             | (is_zero_address(r.infra_bssid_channel.bssid) & (r.infra_bssid_channel.channel == 0)))

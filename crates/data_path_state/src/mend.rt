@@ -54,6 +54,7 @@ pub(crate) fn mend_country(c: CountryCode) -> CountryCode
         present: false,
         first: 0,
         second: 0,
+        pad: 0,
     }
 }
 

@@ -78,7 +78,7 @@ fn put_head(buf: &mut [u8], at: usize, r: DataPathStateTLV) -> usize
 {
     let behind_flags = wire::put_u16(buf, at, r.flags.0);
     let c = r.country_code;
-    let behind_country = put_optional(buf, behind_flags, c.present, &[c.first, c.second, 0]);
+    let behind_country = put_optional(buf, behind_flags, c.present, &[c.first, c.second, c.pad]);
     let map = r.channel_map;
     let word = map.channel;
     put_optional_u16(buf, behind_country, map.present, word.as_u16())

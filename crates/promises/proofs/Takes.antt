@@ -1,20 +1,18 @@
 -- A header looks at 12 bytes and at no others: each of its fields always takes as many, and two lists that agree on them are answered alike, with a refusal too.
 -- Assumes nothing.
 use Prim.Native.Nat.{ℕ, _+_, _≤_}
-use native.Mathlib.Nat.{add-assoc}
 use native.Mathlib.Omega.{arith}
-use mathlib.Core.Path.{_≡_, refl, sym, ap, _∙_}
+use mathlib.Core.Path.{_≡_, refl, sym}
 use mathlib.Core.List.{List}
 use lib.Dec.{eqb}
-use lib.ListN.{length, getD}
+use lib.ListN.{length}
 use Rattle.wire.specs.declared.refusal.Refusal.{Refusal}
 use Rattle.wire.specs.declared.refusal.Refusal.the-variants.{NotAction, NotVersion}
 use Rattle.wire.specs.Reading.{Reading, Reader, read, refused, field, give, onward, _>>=_}
 use Rattle.wire.specs.Answer.{Answer, answer, refusal, asked, require}
-use Rattle.wire.specs.Numbers.{little}
+use Rattle.wire.specs.Numbers.{little, pairOf}
 use Rattle.wire.proofs.Lawful.{SameUpTo, same-below, field-within, never, steps}
 use Rattle.wire.proofs.Places.{made-inside}
-use Rattle.action_frame.specs.declared.AWDLActionFrame.{AWDLActionFrame}
 use Rattle.action_frame.specs.Frames.{fixedByte, header}
 
 -- a reader that takes so many bytes where it gives a value, and whose answer, also a refusal, depends on these bytes alone
@@ -62,7 +60,7 @@ header-takes : Takes header 12
 header-takes =
     bind-takes 1 11 (fixed-takes 0x08 NotAction)
     (λ _. bind-takes 1 10 (fixed-takes 0x10 NotVersion)
-    (λ _. bind-takes 2 8 (made-takes 2 (λ bytes. getD bytes 0 0))
+    (λ _. bind-takes 2 8 (made-takes 2 pairOf)
     (λ subtype. bind-takes 4 4 (made-takes 4 little)
     (λ phy. bind-takes 4 0 (made-takes 4 little) (λ target. give-takes _)))))
 

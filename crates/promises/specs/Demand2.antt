@@ -6,7 +6,7 @@ use mathlib.Core.Bool.{true}
 use mathlib.Core.List.{List}
 use mathlib.Core.Logic.{_↔_, _⊎_}
 use lib.Bits.{bitAnd}
-use lib.ListN.{length}
+use lib.ListN.{length, take}
 use Rattle.wire.specs.Reading.{Reader, read}
 use Rattle.wire.specs.FromBytes.{ReadFromBytes}
 use Rattle.wire.specs.Answer.{answer}
@@ -40,7 +40,8 @@ use Rattle.tlvs.specs.Search.{Match, allOf, nextFrom, GivesRecords}
 use Rattle.tlv_items.specs.Sent.{AllSendable, Sent, sentIn, tailWith}
 use Rattle.action_frame.specs.declared.AWDLActionFrame.{AWDLActionFrame}
 use Rattle.action_frame.specs.Frames.{header, headerBytes, InWidth}
-use Rattle.action_frame.specs.Rewritten as F
+use Rattle.action_frame.specs.Frames as F
+use Rattle.action_frame.specs.Rewritten as F′
 use Rattle.action_frame.specs.declared.PhyTxTime.{PhyTxTime}
 use Rattle.action_frame.specs.declared.TargetTxTime.{TargetTxTime}
 use Rattle.action_frame.specs.Stamps.{delta}
@@ -87,7 +88,8 @@ pub record Demand2 : Type 1 where
   pub synchronizations-in-width : (s : List ℕ) → Bytes s → (at : ℕ) {next : ℕ} {p : SynchronizationParametersTLV} → synchronization s at ≡ read p next
       → AllInWidth (S.numbers p)
   pub headers-consistent : (s : List ℕ) → Bytes s → (at : ℕ) {next : ℕ} {f : AWDLActionFrame} → header s at ≡ read f next → InWidth f
-  -- what was read and is written again gives the bytes that `rewritten` says: its own, but for what is dropped
+  -- what was read and is written again gives the bytes that `rewritten` says: its own, but for the bits that are dropped, and those that a
+  -- channel word carries beside its channel
   pub sequences-again : (encoding : ℕ) (s : List ℕ) (at : ℕ) {next : ℕ} {q : ChannelSequence} → sequence encoding s at ≡ read q next
       → (bytes : List ℕ) × (Q.bytesOf q ≡ answer bytes) × (Q′.rewritten encoding s at ≡ read bytes next)
   pub channel-sequences-again : (s : List ℕ) → Bytes s → (at : ℕ) {next : ℕ} {c : ChannelSequenceTLV} → channelSequence s at ≡ read c next
@@ -97,7 +99,12 @@ pub record Demand2 : Type 1 where
   pub synchronizations-again : (s : List ℕ) → Bytes s → {p : SynchronizationParametersTLV} {size : ℕ} → synchronization s 0 ≡ read p size
       → (bytes : List ℕ) × (S.bytesOf p ≡ answer bytes) × (S′.rewritten s 0 ≡ read bytes size)
   pub headers-again : (s : List ℕ) → Bytes s → (at : ℕ) {next : ℕ} {f : AWDLActionFrame} → header s at ≡ read f next
-      → F.rewritten s at ≡ read (headerBytes f) next
+      → F′.rewritten s at ≡ read (headerBytes f) next
+  -- so a frame that is written again with its own tail is that frame, byte for byte, and the 33 fixed bytes of a synchronization value come back
+  -- as they stand
+  pub frames-again : (s : List ℕ) → Bytes s → {next : ℕ} {f : AWDLActionFrame} → header s 0 ≡ read f next → F.bytesOf f (F.tailOf s) ≡ s
+  pub fixed-again : (s : List ℕ) → Bytes s → {p : SynchronizationParametersTLV} {size : ℕ} → synchronization s 0 ≡ read p size
+      → S.fixedBytes p ≡ take 33 s
   -- a record within its widths is consistent exactly when some bytes are read as it
   pub sequences-exactly : (q : ChannelSequence) → SequenceInWidth q → (Q.consistent q ≡ answer true) ↔ ReadFromBytes (sequence (q .encoding)) q
   pub channel-sequences-exactly : (c : ChannelSequenceTLV) → ChannelSequenceInWidth c → (C.consistent c ≡ answer true) ↔ ReadFromBytes channelSequence c

@@ -1,6 +1,6 @@
 -- Demand1, Demand2, Demand3: what the library's user demands, in the words below. Rows: the starred rows of the table of bytes at the
--- edges. Later: how a later sender's frame comes from a frame. Calls: what is proved of a call. Answers: what is promised of an
--- answer that can be a refusal. Formats: what is written, and what is read back of it.
+-- edges, and rows for the reserved bytes. Later: how a later sender's frame comes from a frame. Calls: what is proved of a call.
+-- Answers: what is promised of an answer that can be a refusal. Formats: what is written, and what is read back of it.
 pub mod Demand1
 pub mod Demand2
 pub mod Demand3

@@ -1,19 +1,18 @@
 -- A record that was read, written again, gives the bytes that `rewritten` says, and its numbers are within their widths: each number gives back the bytes that it was read of.
 -- Assumes nothing.
-use Prim.Native.Nat.{ℕ, _^_, _≤_, _<_}
-use native.Mathlib.Nat.{add-zero}
-use native.Mathlib.Omega.{arith}
+use Prim.Native.Nat.{ℕ, _≤_, _<_}
 use mathlib.Core.Path.{_≡_, sym, ap, subst, _∙_}
 use mathlib.Core.Bool.{true}
 use mathlib.Core.List.{List, _++_}
-use lib.ListN.{length, getD, drop}
+use lib.ListN.{length, getD, take}
+use borrow.Author.Tests.{le-leb}
 use Rattle.wire.specs.Reading.{read, onward}
 use Rattle.wire.specs.Answer.{answer}
 use Rattle.wire.specs.Numbers.{AllInWidth, one}
 use Rattle.wire.specs.Addresses.{address}
-use Rattle.wire.proofs.Bytes.{from, opened}
+use Rattle.wire.proofs.Bytes.{opened}
 use Rattle.wire.proofs.Gives.{Gives, gives-any, gives-give, gives-bind}
-use Rattle.wire.proofs.Octets.{byte, low, high, Octets, gives-field, gives-number}
+use Rattle.wire.proofs.Octets.{byte, low, high, Octets, gives-number, gives-pair}
 use Rattle.channel_sequence.specs.declared.channel_sequence_tlv.ChannelSequenceTLV.{ChannelSequenceTLV}
 use Rattle.channel_sequence.specs.SequenceTLVs.{numbers as numbersOf}
 use Rattle.channel_sequence.specs.SequenceTLVReader.{channelSequence}
@@ -23,17 +22,20 @@ use Rattle.synchronization_parameters.specs.declared.synchronization_par
 use Rattle.synchronization_parameters.specs.SynchronizationReader.{synchronization}
 use Rattle.synchronization_parameters.specs.SynchronizationBytes.{consistent, fixedBytes, bytesOf, numbers}
 use Rattle.synchronization_parameters.specs.Rewritten.{rewritten}
-use Rattle.synchronization_parameters.proofs.Whole.{fieldsOf, inside, fields-and-channels}
+use Rattle.synchronization_parameters.proofs.Whole.{fieldsOf, fields-and-channels}
 
--- of a list of bytes, in which no element is 256 or more
+-- of a list of bytes, in which no element is 256 or more, the fixed part is what its fields are written as
+fixed-same : (s : List ℕ) → ((i : ℕ) → getD s i 0 < 256) → 33 ≤ length s → (c : ChannelSequenceTLV) → fixedBytes (fieldsOf s c) ≡ take 33 s
+unfolding fixedBytes
+fixed-same s small h c = subst (λ (l : List ℕ). fixedBytes (fieldsOf l c) ≡ take 33 l) (opened 33 s h) (simp (byte, low, high, small))
+
+pub fixed-again : (s : List ℕ) → ((i : ℕ) → getD s i 0 < 256) → {p : SynchronizationParametersTLV} {size : ℕ} → synchronization s 0 ≡ read p size
+    → fixedBytes p ≡ take 33 s
+fixed-again s small e = let w = fields-and-channels s e in ap fixedBytes (sym (w .made)) ∙ fixed-same s small (w .enough) (w .channels)
+
 again : (s : List ℕ) → ((i : ℕ) → getD s i 0 < 256) → 33 ≤ length s → (c : ChannelSequenceTLV)
     → rewritten s 0 ≡ onward (rewrittenChannelSequence s 33) (λ channels next. read (fixedBytes (fieldsOf s c) ++ channels) next)
-unfolding fixedBytes
-again s small h c =
-    let bytes : List ℕ = from s 0 0 33 ++ drop 33 s in
-    let enough : 33 ≤ length bytes = omega arith in
-    subst (λ (l : List ℕ). rewritten l 0 ≡ onward (rewrittenChannelSequence l 33) (λ channels next. read (fixedBytes (fieldsOf l c) ++ channels) next)) (opened 33 s h)
-    (simp (inside bytes enough, add-zero, byte, low, high, small))
+again s small h c = rw (fixed-same s small h c, le-leb 33 (length s) h)
 
 pub written-again : (s : List ℕ) → ((i : ℕ) → getD s i 0 < 256) → {p : SynchronizationParametersTLV} {size : ℕ} → synchronization s 0 ≡ read p size
     → (bytes : List ℕ) × (bytesOf p ≡ answer bytes) × (rewritten s 0 ≡ read bytes size)
@@ -65,11 +67,11 @@ in-width s p =
     gives-bind (gives-number p 2) λ _ h. gives-bind (gives-number p 2) λ _ i. gives-bind (gives-number p 2) λ _ j.
     gives-bind (gives-number p 1) λ _ k. gives-bind (gives-number p 1) λ _ l. gives-bind (gives-number p 1) λ _ m. gives-bind (gives-number p 1) λ _ n.
     gives-bind (gives-any address) λ _ _.
-    gives-bind {Q = λ v. v < 256 ^ 1} (gives-bind (gives-field p 2) λ bytes q. gives-give _ (q .octets .small 0)) λ _ o.
+    gives-bind (gives-pair p) λ _ o.
     gives-bind (gives-number p 2) λ _ t. gives-bind (gives-number p 2) λ _ u.
     gives-bind (channels-in-width s p) λ _ rest.
     gives-give _
-    (one a (one b (one c (one d (one e (one f (one g (one h (one i (one j (one k (one l (one m (one n (one o (one t (one u rest)))))))))))))))))
+    (one a (one b (one c (one d (one e (one f (one g (one h (one i (one j (one k (one l (one m (one n (one (o .0) (one (o .1) (one t (one u rest))))))))))))))))))
 
 pub read-in-width : (s : List ℕ) → ((i : ℕ) → getD s i 0 < 256) → (at : ℕ) {next : ℕ} {p : SynchronizationParametersTLV} → synchronization s at ≡ read p next
     → AllInWidth (numbers p)

@@ -3,11 +3,10 @@
 use mathlib.Core.Logic.{_↔_}
 use mathlib.Core.Path.{_≡_}
 use mathlib.Core.Bool.{true}
-use lib.Dec.{lit<}
 use Rattle.wire.specs.FromBytes.{ReadFromBytes}
 use Rattle.wire.specs.Answer.{answer}
 use Rattle.wire.specs.Addresses.{addressBytes}
-use Rattle.wire.proofs.Octets.{Octets, octets-none, octets-cons, octets-append, octets-little}
+use Rattle.wire.proofs.Octets.{Octets, octets-append, octets-little}
 use Rattle.wire.proofs.ReadsBack.{from-bytes}
 use Rattle.channel_sequence.proofs.SequenceTLVs as C
 use Rattle.synchronization_parameters.specs.declared.synchronization_parameters_tlv.SynchronizationParametersTLV.{SynchronizationParametersTLV}
@@ -35,9 +34,8 @@ fixed-octets p address =
     (octets-append (octets-little 1 (p .«max_unicast_ext_count»))
     (octets-append (octets-little 1 (p .«max_af_ext_count»))
     (octets-append address
-    (octets-append (octets-little 1 (p .«presence_mode»))
-    (octets-append (octets-cons (lit< tt) octets-none)
-    (octets-append (octets-little 2 (p .«aw_seq_number»)) (octets-little 2 (p .«ap_beacon_alignment_delta»)))))))))))))))))))
+    (octets-append (octets-append (octets-little 1 (p .«presence_mode»)) (octets-little 1 (p .reserved)))
+    (octets-append (octets-little 2 (p .«aw_seq_number»)) (octets-little 2 (p .«ap_beacon_alignment_delta»))))))))))))))))))
 
 consistent-read : (p : SynchronizationParametersTLV) → SynchronizationInWidth p → consistent p ≡ answer true → ReadFromBytes synchronization p
 consistent-read p fits e =

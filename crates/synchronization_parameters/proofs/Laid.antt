@@ -1,7 +1,7 @@
 -- The fields of a value stand one behind the other, and those of the sequence behind them: the reader is put together of them.
 -- Assumes nothing.
 use mathlib.Core.Path.{refl}
-use lib.ListN.{getD}
+use Rattle.wire.specs.Numbers.{pairOf}
 use Rattle.wire.specs.Addresses.{addressOf}
 use Rattle.wire.proofs.Laid.{Laid, laid-last, laid-field-on, laid-number}
 use Rattle.channel_sequence.proofs.Laid.{channel-sequence-laid}
@@ -14,5 +14,5 @@ synchronization-laid =
     laid-number 1 λ _. laid-number 2 λ _. laid-number 1 λ _. laid-number 1 λ _.
     laid-number 2 λ _. laid-number 2 λ _. laid-number 2 λ _. laid-number 2 λ _. laid-number 2 λ _. laid-number 2 λ _.
     laid-number 1 λ _. laid-number 1 λ _. laid-number 1 λ _. laid-number 1 λ _.
-    laid-field-on 6 addressOf λ _. laid-field-on 2 (λ bytes. getD bytes 0 0) λ _.
+    laid-field-on 6 addressOf λ _. laid-field-on 2 pairOf λ _.
     laid-number 2 λ _. laid-number 2 λ _. laid-last _ (λ p. p .«channel_sequence») channel-sequence-laid (λ c. refl)

@@ -1,31 +1,19 @@
 -- A consistent record whose numbers fit their fields fills exactly its size and reads back as itself, from any place and with anything behind.
 -- Assumes nothing.
-use Prim.Native.Nat.{ℕ, _+_, _%_, _^_, _<_}
-use native.Mathlib.Omega.{arith}
-use mathlib.Core.Path.{_≡_, refl, sym, ap, subst, _∙_}
+use Prim.Native.Nat.{ℕ, _+_}
+use mathlib.Core.Path.{_≡_, sym, ap, _∙_}
 use mathlib.Core.Bool.{true}
 use mathlib.Core.List.{List, [], _∷_, _++_}
-use lib.ListN.{length, getD, take, length-append}
-use Rattle.wire.specs.Reading.{Reader, _>>=_}
+use lib.ListN.{length, take, length-append}
 use Rattle.wire.specs.Answer.{answer}
-use Rattle.wire.specs.Numbers.{AllInWidth, one, littleBytes}
-use Rattle.wire.proofs.ReadsBack.{Back, bind-back, made-back, field-back, number-on, address-on}
+use Rattle.wire.specs.Numbers.{AllInWidth, one}
+use Rattle.wire.proofs.ReadsBack.{Back, made-back, number-on, pair-on, address-on}
 use Rattle.channel_sequence.specs.SequenceTLVReader.{channelSequence}
 use Rattle.channel_sequence.proofs.SequenceTLVs as C
 use Rattle.synchronization_parameters.specs.declared.synchronization_parameters_tlv.SynchronizationParametersTLV.{SynchronizationParametersTLV}
-use Rattle.synchronization_parameters.specs.SynchronizationReader.{presenceMode, synchronization}
+use Rattle.synchronization_parameters.specs.SynchronizationReader.{synchronization}
 use Rattle.synchronization_parameters.specs.SynchronizationBytes.{consistent, sizeOf, fixedBytes, bytesOf, numbers}
 use Rattle.synchronization_parameters.proofs.Sizes.{length-fixed}
-
-mode-back : (mode : ℕ) → mode < 256 ^ 1 → Back presenceMode (littleBytes 1 mode ++ (0 ∷ [])) mode
-mode-back mode h =
-    let bytes : List ℕ = littleBytes 1 mode ++ (0 ∷ []) in
-    let small : mode % 256 ≡ mode = omega arith in
-    subst (λ (m : ℕ). Back presenceMode bytes m) small (made-back (λ b. getD b 0 0) (field-back 2 bytes refl))
-
-mode-on : {B : Type 0} (f : ℕ → Reader B) {mode : ℕ} {others : List (ℕ × ℕ)} {bytes : List ℕ} {b : B}
-    → (AllInWidth others → Back (f mode) bytes b) → AllInWidth ((1, mode) ∷ others) → Back (presenceMode >>= f) (littleBytes 1 mode ++ (0 ∷ []) ++ bytes) b
-mode-on f goes (one h rest) = bind-back f (mode-back _ h) (goes rest)
 
 pub synchronization-back : (p : SynchronizationParametersTLV) {channels : List ℕ} → Back channelSequence channels (p .«channel_sequence») → AllInWidth (numbers p)
     → Back synchronization (fixedBytes p ++ channels) p
@@ -35,7 +23,7 @@ synchronization-back p channels =
     (number-on 2 _ (number-on 2 _ (number-on 2 _
     (number-on 2 _ (number-on 2 _ (number-on 2 _
     (number-on 1 _ (number-on 1 _ (number-on 1 _ (number-on 1 _
-    (address-on _ (p .«master_address») (mode-on _ (number-on 2 _ (number-on 2 _ (λ rest. made-back _ channels))))))))))))))))))
+    (address-on _ (p .«master_address») (pair-on _ (number-on 2 _ (number-on 2 _ (λ rest. made-back _ channels))))))))))))))))))
 
 -- the numbers of the sequence are the last ones
 behind : (front : List (ℕ × ℕ)) {others : List (ℕ × ℕ)} → AllInWidth (front ++ others) → AllInWidth others
@@ -44,7 +32,7 @@ behind (n ∷ front) (one h fit) = behind front fit
 
 pub channels-filled : (p : SynchronizationParametersTLV) → AllInWidth (numbers p) → length (p .«channel_sequence» .«channel_sequence» .bytes) ≡ 32
     → consistent p ≡ answer true → C.ChannelSequenceFilled (p .«channel_sequence»)
-channels-filled p fit whole e = C.round-trip (p .«channel_sequence») (behind (take 17 (numbers p)) fit) whole e
+channels-filled p fit whole e = C.round-trip (p .«channel_sequence») (behind (take 18 (numbers p)) fit) whole e
 
 -- the bytes of a record: as many as its size says, and read back as the record
 pub record SynchronizationFilled (p : SynchronizationParametersTLV) : Type 0 where

@@ -14,6 +14,7 @@ use borrow.Author.Tests.{le-leb, leb-true}
 use Rattle.wire.specs.declared.refusal.Refusal.the-variants.{Short}
 use Rattle.wire.specs.Reading.{read, refused, onward}
 use Rattle.wire.specs.ShortFields.{firstShort}
+use Rattle.wire.specs.Numbers.{pairOf}
 use Rattle.wire.specs.Addresses.{addressOf}
 use Rattle.wire.proofs.Bytes.{from, opened}
 use Rattle.wire.proofs.Lawful.{Lawful, never, steps, give-lawful}
@@ -54,6 +55,7 @@ worded s channels a b c d e f g h i =
       «master_address» =
           record { 0 = byteAt s 21; 1 = byteAt s 22; 2 = byteAt s 23; 3 = byteAt s 24; 4 = byteAt s 25; 5 = byteAt s 26 };
       «presence_mode» = byteAt s 27;
+      reserved = byteAt s 28;
       «aw_seq_number» = h;
       «ap_beacon_alignment_delta» = i;
       «channel_sequence» = channels;
@@ -64,7 +66,7 @@ abbrev pub fieldsOf : List ℕ → ChannelSequenceTLV → SynchronizationParamet
 fieldsOf s channels =
     worded s channels (wordAt s 1) (wordAt s 5) (wordAt s 7) (wordAt s 9) (wordAt s 11) (wordAt s 13) (wordAt s 15) (wordAt s 29) (wordAt s 31)
 
-pub inside : (s : List ℕ) → 33 ≤ length s → (k : ℕ) → leb k 33 ≡ true → leb k (length s) ≡ true
+inside : (s : List ℕ) → 33 ≤ length s → (k : ℕ) → leb k 33 ≡ true → leb k (length s) ≡ true
 inside s h k e = le-leb k (length s) (omega (arith, leb-true k 33 e))
 
 pub all-fields : (s : List ℕ) → 33 ≤ length s → synchronization s 0 ≡ onward (channelSequence s 33) (λ c next. read (fieldsOf s c) next)
@@ -87,7 +89,7 @@ begins =
     begins-number 1 λ _. begins-number 2 λ _. begins-number 1 λ _. begins-number 1 λ _.
     begins-number 2 λ _. begins-number 2 λ _. begins-number 2 λ _. begins-number 2 λ _. begins-number 2 λ _. begins-number 2 λ _.
     begins-number 1 λ _. begins-number 1 λ _. begins-number 1 λ _. begins-number 1 λ _.
-    begins-field (made-field 6 addressOf) λ _. begins-field (made-field 2 (λ bytes. getD bytes 0 0)) λ _.
+    begins-field (made-field 6 addressOf) λ _. begins-field (made-field 2 pairOf) λ _.
     begins-number 2 λ _. begins-number 2 λ _. begins-bind channel-sequence-begins λ c. give-lawful _
 
 pub synchronization-lawful : Lawful synchronization

@@ -1,20 +1,12 @@
 -- How a synchronization value is read: its fields, each behind the one before it, and then the channel sequence.
-use Prim.Native.Nat.{ℕ}
-use lib.ListN.{getD}
-use Rattle.wire.specs.Reading.{Reader, field, give, _>>=_}
-use Rattle.wire.specs.Numbers.{number}
+use Rattle.wire.specs.Reading.{Reader, give, _>>=_}
+use Rattle.wire.specs.Numbers.{number, withReserved}
 use Rattle.wire.specs.Addresses.{address, zeroAddress}
 use Rattle.channel_sequence.specs.SequenceTLVs.{zeroChannelSequence}
 use Rattle.channel_sequence.specs.SequenceTLVReader.{channelSequence}
 use Rattle.synchronization_parameters.specs.declared.synchronization_parameters_tlv.SynchronizationParametersTLV.{SynchronizationParametersTLV}
 
--- the mode and the reserved byte behind it, which is dropped, are one field
-abbrev pub presenceMode : Reader ℕ
-presenceMode = do
-  bytes ← field 2
-  give (getD bytes 0 0)
-
--- 33 bytes and the sequence; what follows them is not looked at
+-- 33 bytes, among them the mode with its reserved byte, and the sequence; what follows them is not looked at
 unfoldable pub synchronization : Reader SynchronizationParametersTLV
 synchronization = do
   «next_channel» ← number 1
@@ -32,7 +24,7 @@ synchronization = do
   «max_unicast_ext_count» ← number 1
   «max_af_ext_count» ← number 1
   «master_address» ← address
-  «presence_mode» ← presenceMode
+  both ← withReserved
   «aw_seq_number» ← number 2
   «ap_beacon_alignment_delta» ← number 2
   «channel_sequence» ← channelSequence
@@ -53,7 +45,8 @@ synchronization = do
         «max_unicast_ext_count» = «max_unicast_ext_count»;
         «max_af_ext_count» = «max_af_ext_count»;
         «master_address» = «master_address»;
-        «presence_mode» = «presence_mode»;
+        «presence_mode» = both .0;
+        reserved = both .1;
         «aw_seq_number» = «aw_seq_number»;
         «ap_beacon_alignment_delta» = «ap_beacon_alignment_delta»;
         «channel_sequence» = «channel_sequence»;
@@ -78,6 +71,7 @@ zeroSynchronization =
       «max_af_ext_count» = 0;
       «master_address» = zeroAddress;
       «presence_mode» = 0;
+      reserved = 0;
       «aw_seq_number» = 0;
       «ap_beacon_alignment_delta» = 0;
       «channel_sequence» = zeroChannelSequence;

@@ -38,6 +38,8 @@ pub struct SynchronizationParametersTLV {
     pub max_af_ext_count: u8,
     pub master_address: MACAddress,
     pub presence_mode: u8,
+    // What it means is not known, so it is written again as it was read.
+    pub reserved: u8,
     pub aw_seq_number: u16,
     pub ap_beacon_alignment_delta: u16,
     pub channel_sequence: ChannelSequenceTLV,
@@ -55,7 +57,7 @@ const FIXED_SIZE: usize = 33;
 // The bytes in front of its entries.
 const HEAD_SIZE: usize = 6;
 
-// How many of the fixed bytes each field takes. The reserved byte belongs to the mode before it.
+// How many of the fixed bytes each field takes. The mode and its reserved byte are one.
 const WIDTHS: [u8; 18] = [1, 2, 1, 1, 2, 2, 2, 2, 2, 2, 1, 1, 1, 1, 6, 2, 2, 2];
 
 impl SynchronizationParametersTLV {
@@ -141,6 +143,7 @@ fn no_parameters() -> SynchronizationParametersTLV
         max_af_ext_count: 0,
         master_address: MACAddress(0, 0, 0, 0, 0, 0),
         presence_mode: 0,
+        reserved: 0,
         aw_seq_number: 0,
         ap_beacon_alignment_delta: 0,
         channel_sequence: ChannelSequenceTLV {
@@ -180,6 +183,7 @@ fn read_fields(s: &[u8], channels: ChannelSequenceTLV, next: usize) -> ReadSynch
             max_af_ext_count: s[20],
             master_address: MACAddress(s[21], s[22], s[23], s[24], s[25], s[26]),
             presence_mode: s[27],
+            reserved: s[28],
             aw_seq_number: word(s, 29),
             ap_beacon_alignment_delta: word(s, 31),
             channel_sequence: channels,
@@ -217,7 +221,7 @@ fn put_fields(p: SynchronizationParametersTLV, buf: &mut [u8]) -> usize
     wire::put_u8(buf, 20, p.max_af_ext_count);
     wire::put_address(buf, 21, master_address);
     wire::put_u8(buf, 27, p.presence_mode);
-    wire::put_u8(buf, 28, 0);
+    wire::put_u8(buf, 28, p.reserved);
     wire::put_u16(buf, 29, p.aw_seq_number);
     wire::put_u16(buf, 31, p.ap_beacon_alignment_delta)
 }

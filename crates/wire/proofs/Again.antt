@@ -9,11 +9,11 @@ use lib.ListN.{length, take, drop}
 use lib.Seq.{take-add, drop-drop}
 use borrow.Author.Tests.{le-leb}
 use Rattle.wire.specs.Reading.{Reading, Reader, read, refused, give, field, onward, _>>=_, when}
-use Rattle.wire.specs.Numbers.{little, littleBytes, number}
+use Rattle.wire.specs.Numbers.{little, littleBytes, number, withReserved, pairBytes}
 use Rattle.wire.specs.Addresses.{address, addressBytes}
 use Rattle.wire.proofs.Lawful.{steps, grouped, field-read}
 use Rattle.wire.proofs.Gives.{Gives}
-use Rattle.wire.proofs.Octets.{Octets, OctetField, gives-field, number-field, address-field}
+use Rattle.wire.proofs.Octets.{Octets, OctetField, gives-field, number-field, pair-field, address-field}
 
 -- where the first reads a value, the second reads its image and ends at the same place
 pub record Again {A X : Type 0} (s : List ℕ) (r : Reader A) (c : Reader X) (f : A → X) : Type 0 where
@@ -72,9 +72,12 @@ pub again-made : {A B X : Type 0} {s : List ℕ} {m : Reader A} {c : Reader X} {
     → Again s m c g → ((a : A) → f (h a) ≡ g a) → Again s (m >>= λ a. give (h a)) c f
 again-made h b same = again-end (again-step give b λ a. again-give (same a))
 
--- a number and an address are written as the field that they were read of
+-- a number, a byte with its reserved byte, and an address are written as the field that they were read of
 pub number-again : {s : List ℕ} → Octets s → (n : ℕ) → Again s (number n) (field n) (littleBytes n)
 number-again p n = again-end (again-bind (gives-field p n) λ bytes q. again-give (number-field q))
+
+pub pair-again : {s : List ℕ} → Octets s → Again s withReserved (field 2) (λ b. pairBytes (b .0) (b .1))
+pair-again p = again-end (again-bind (gives-field p 2) λ bytes q. again-give (pair-field q))
 
 pub address-again : {s : List ℕ} → Octets s → Again s address (field 6) addressBytes
 address-again p = again-end (again-bind (gives-field p 6) λ bytes q. again-give (address-field q))

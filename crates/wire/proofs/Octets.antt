@@ -9,7 +9,7 @@ use mathlib.Core.List.{List, [], _∷_, _++_, append-nil}
 use lib.ListN.{length, getD, take, drop, length-take, length-drop}
 use lib.Seq.{getD-drop, drop-length}
 use Rattle.wire.specs.Reading.{field}
-use Rattle.wire.specs.Numbers.{little, littleBytes, number}
+use Rattle.wire.specs.Numbers.{little, littleBytes, number, pairOf, withReserved, pairBytes}
 use Rattle.wire.specs.Addresses.{address, addressOf, addressBytes}
 use Rattle.wire.proofs.Bytes.{from, opened}
 use Rattle.wire.proofs.Lawful.{field-read}
@@ -90,6 +90,10 @@ pub record OctetField (n : ℕ) (bytes : List ℕ) : Type 0 where
 pub number-field : {n : ℕ} {bytes : List ℕ} → OctetField n bytes → littleBytes n (little bytes) ≡ bytes
 number-field {n} {bytes} p = rw (← p .size) (little-again bytes (p .octets))
 
+pub pair-field : {bytes : List ℕ} → OctetField 2 bytes → pairBytes (pairOf bytes .0) (pairOf bytes .1) ≡ bytes
+pair-field {bytes} p =
+    rw (byte (getD bytes 0 0) (p .octets .small 0), byte (getD bytes 1 0) (p .octets .small 1)) (by-place 2 bytes (p .size))
+
 pub address-field : {bytes : List ℕ} → OctetField 6 bytes → addressBytes (addressOf bytes) ≡ bytes
 address-field {bytes} p = by-place 6 bytes (p .size)
 
@@ -106,6 +110,9 @@ gives-field {s} p n =
 
 pub gives-number : {s : List ℕ} → Octets s → (n : ℕ) → Gives s (number n) (λ v. v < 256 ^ n)
 gives-number p n = gives-bind (gives-field p n) λ bytes f. gives-give (little bytes) (rw (← f .size) (little-small bytes (f .octets)))
+
+pub gives-pair : {s : List ℕ} → Octets s → Gives s withReserved (λ b. (b .0 < 256) × (b .1 < 256))
+gives-pair p = gives-bind (gives-field p 2) λ bytes f. gives-give (pairOf bytes) (f .octets .small 0, f .octets .small 1)
 
 pub gives-address : {s : List ℕ} → Octets s → Gives s address (λ a. Octets (addressBytes a))
 gives-address p = gives-bind (gives-field p 6) λ bytes f. gives-give (addressOf bytes) (rw (address-field f) (f .octets))

@@ -1,6 +1,6 @@
 -- What was written is read back, from any place and with anything behind, proved once for each way of putting readers together.
 -- Assumes nothing.
-use Prim.Native.Nat.{ℕ, zero, suc, _+_, _/_, _^_, _≤_, _<_}
+use Prim.Native.Nat.{ℕ, zero, suc, _+_, _/_, _%_, _^_, _≤_, _<_}
 use native.Mathlib.Nat.{add-zero, zero-add, add-assoc, pow-suc, div-lt-iff-lt-mul}
 use native.Mathlib.Omega.{arith}
 use mathlib.Core.Path.{_≡_, refl, ap, _∙_}
@@ -14,7 +14,7 @@ use Rattle.wire.specs.declared.read.MACAddress.{MACAddress}
 use Rattle.wire.specs.Reading.{Reader, read, give, field, _>>=_, when}
 use Rattle.wire.specs.FromBytes.{ReadFromBytes}
 use Rattle.wire.specs.Answer.{Answer, answer, asked}
-use Rattle.wire.specs.Numbers.{AllInWidth, one, little, littleBytes, number}
+use Rattle.wire.specs.Numbers.{AllInWidth, one, little, littleBytes, number, pairOf, withReserved, pairBytes}
 use Rattle.wire.specs.Addresses.{address, addressOf, addressBytes}
 
 -- a reader reads some bytes as a value
@@ -89,6 +89,12 @@ number-back width v h =
     rw (little-back width v h) at
     (made-back little (field-back width (littleBytes width v) (length-little width v)))
 
+pub pair-back : (byte reserved : ℕ) → byte < 256 → reserved < 256 → Back withReserved (pairBytes byte reserved) (byte, reserved)
+pair-back byte reserved h k =
+    let first : byte % 256 ≡ byte = omega arith in
+    let second : reserved % 256 ≡ reserved = omega arith in
+    rw (first, second) (made-back pairOf (field-back 2 (byte ∷ reserved ∷ []) refl))
+
 pub address-back : (a : MACAddress) → Back address (addressBytes a) a
 address-back a = made-back addressOf (field-back 6 (addressBytes a) refl)
 
@@ -96,6 +102,11 @@ address-back a = made-back addressOf (field-back 6 (addressBytes a) refl)
 pub number-on : {B : Type 0} (width : ℕ) (f : ℕ → Reader B) {v : ℕ} {others : List (ℕ × ℕ)} {bytes : List ℕ} {b : B}
     → (AllInWidth others → Back (f v) bytes b) → AllInWidth ((width, v) ∷ others) → Back (number width >>= f) (littleBytes width v ++ bytes) b
 number-on width f goes (one h rest) = bind-back f (number-back width _ h) (goes rest)
+
+pub pair-on : {B : Type 0} (f : ℕ × ℕ → Reader B) {byte reserved : ℕ} {others : List (ℕ × ℕ)} {bytes : List ℕ} {b : B}
+    → (AllInWidth others → Back (f (byte, reserved)) bytes b) → AllInWidth ((1, byte) ∷ (1, reserved) ∷ others)
+    → Back (withReserved >>= f) (pairBytes byte reserved ++ bytes) b
+pair-on f goes (one h (one k rest)) = bind-back f (pair-back _ _ h k) (goes rest)
 
 -- an address always fits
 pub address-on : {B : Type 0} (f : MACAddress → Reader B) (a : MACAddress) {others : List (ℕ × ℕ)} {bytes : List ℕ} {b : B}

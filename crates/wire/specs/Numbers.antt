@@ -1,8 +1,9 @@
 -- Numbers: little-endian, whatever the board.
 use Prim.Native.Nat.{ℕ, zero, suc, _+_, _*_, _/_, _%_, _^_, _<_}
 use mathlib.Core.Bool.{Bool}
-use mathlib.Core.List.{List, [], _∷_}
+use mathlib.Core.List.{List, [], _∷_, _++_}
 use lib.Dec.{eqb}
+use lib.ListN.{getD}
 use Rattle.wire.specs.Reading.{Reader, field, give, _>>=_}
 
 -- the number that some bytes write, lowest byte first
@@ -19,6 +20,18 @@ abbrev pub number : ℕ → Reader ℕ
 number width = do
   bytes ← field width
   give (little bytes)
+
+-- a byte and the reserved byte behind it, which belongs to it: the two are one field
+abbrev pub pairOf : List ℕ → ℕ × ℕ
+pairOf bytes = (getD bytes 0 0, getD bytes 1 0)
+
+abbrev pub withReserved : Reader (ℕ × ℕ)
+withReserved = do
+  bytes ← field 2
+  give (pairOf bytes)
+
+abbrev pub pairBytes : ℕ → ℕ → List ℕ
+pairBytes byte reserved = littleBytes 1 byte ++ littleBytes 1 reserved
 
 -- some bits of a word as a number, and one bit as a test
 abbrev pub bits : ℕ → ℕ → ℕ → ℕ

@@ -1,4 +1,4 @@
--- `fields_at` meets its contract: the subtype is the first byte of a field that stands within, and each stamp was read or was short.
+-- `fields_at` meets its contract: subtype and reserved byte are the two bytes of a field that stands within, and each stamp was read or was short.
 -- Assumes nothing.
 use Rattle.action_frame.proofs.fields_at.Statement.{statement}
 use Rattle.action_frame.proofs.fields_at.Tie as tie
@@ -10,20 +10,26 @@ use borrow.Author.Needs.{needs}
 use mathlib.Core.Path.{sym, ap, _∙_}
 use native.Mathlib.Omega.{arith}
 
--- where its place was given, the field of the subtype stands within
+-- where its place was given, the field of the two bytes stands within
 pair : (c : tie.After-known-told) →
     let a = c .before .before .before .before .before .args in
-    PlacedField 2 (a .s .now) (a .at) (c .before .behind-subtype .given .0 .0)
-pair c = placed _ _ _ (ap saidPlace (sym (c .before .behind-subtype .given .1)) ∙ c .before .before .before .field-at .ensures)
+    PlacedField 2 (a .s .now) (a .at) (c .before .behind-reserved .given .0 .0)
+pair c = placed _ _ _ (ap saidPlace (sym (c .before .behind-reserved .given .1)) ∙ c .before .before .before .field-at .ensures)
 
 field-at-requires : tie.Need-field-at-requires
 field-at-requires c κs = search needs
 
-enum-known-behind-subtype : tie.Need-enum-known-behind-subtype
-enum-known-behind-subtype c = search needs
+enum-known-behind-reserved : tie.Need-enum-known-behind-reserved
+enum-known-behind-reserved c = search needs
 
 shared-slice-read-subtype : tie.Need-shared-slice-read-subtype
 shared-slice-read-subtype c = omega (arith, pair (c .before))
+
+add-reserved : tie.Need-add-reserved
+add-reserved c = omega (arith, pair (c .before))
+
+shared-slice-read-reserved : tie.Need-shared-slice-read-reserved
+shared-slice-read-reserved c = omega (arith, pair (c .before .before))
 
 u32-at-requires : tie.Need-u32-at-requires
 u32-at-requires c κs = search needs
@@ -50,13 +56,13 @@ enum-known-why-3 : tie.Need-enum-known-why-3
 enum-known-why-3 c = search needs
 
 returns : tie.Need-returns
-returns c = rw (c .header-of .ensures, begins (pair (c .before .before .before .before .before .before .before .before .before .before)), sym (c .before .before .before .before .before .before .before .before .u32-at .ensures) ∙ ap saidU32 (c .before .before .before .before .before .before .phy .given .1), sym (c .before .before .before .before .u32-at2 .ensures) ∙ ap saidU32 (c .before .before .target .given .1))
+returns c = rw (c .header-of .ensures, begins (pair (c .before .before .before .before .before .before .before .before .before .before .before)), sym (c .before .before .before .before .before .before .before .before .u32-at .ensures) ∙ ap saidU32 (c .before .before .before .before .before .before .phy .given .1), sym (c .before .before .before .before .u32-at2 .ensures) ∙ ap saidU32 (c .before .before .target .given .1))
 
 returns-2 : tie.Need-returns-2
-returns-2 c = rw (begins (pair (c .before .before .before .before .before .before .before .before .before)), sym (c .before .before .before .before .before .before .before .u32-at .ensures) ∙ ap saidU32 (c .before .before .before .before .before .phy .given .1), sym (c .before .before .before .u32-at2 .ensures) ∙ ap saidU32 (c .before .why .given .1))
+returns-2 c = rw (begins (pair (c .before .before .before .before .before .before .before .before .before .before)), sym (c .before .before .before .before .before .before .before .u32-at .ensures) ∙ ap saidU32 (c .before .before .before .before .before .phy .given .1), sym (c .before .before .before .u32-at2 .ensures) ∙ ap saidU32 (c .before .why .given .1))
 
 returns-3 : tie.Need-returns-3
-returns-3 c = rw (begins (pair (c .before .before .before .before .before)), sym (c .before .before .before .u32-at .ensures) ∙ ap saidU32 (c .before .why2 .given .1))
+returns-3 c = rw (begins (pair (c .before .before .before .before .before .before)), sym (c .before .before .before .u32-at .ensures) ∙ ap saidU32 (c .before .why2 .given .1))
 
 returns-4 : tie.Need-returns-4
 returns-4 c =
@@ -68,8 +74,10 @@ fields-at-spec =
     tie.close
     (tie.spec
     field-at-requires
-    enum-known-behind-subtype
+    enum-known-behind-reserved
     shared-slice-read-subtype
+    add-reserved
+    shared-slice-read-reserved
     u32-at-requires
     enum-known-phy
     u32-at-requires-2

@@ -1,4 +1,4 @@
--- `country_code` meets its contract: the part of three bytes is the field, and its letters are the first two.
+-- `country_code` meets its contract: the part of three bytes is the field, and the letters and the pad are its bytes.
 -- Assumes nothing.
 use Rattle.data_path_fields.proofs.read.country_code.Statement.{statement}
 use Rattle.data_path_fields.proofs.read.country_code.Tie as tie
@@ -33,15 +33,21 @@ add-t12 c = omega (arith, part (c .before))
 shared-slice-read-t14 : tie.Need-shared-slice-read-t14
 shared-slice-read-t14 c = omega (arith, part (c .before .before))
 
+add-t15 : tie.Need-add-t15
+add-t15 c = omega (arith, part (c .before .before))
+
+shared-slice-read-t17 : tie.Need-shared-slice-read-t17
+shared-slice-read-t17 c = omega (arith, part (c .before .before .before))
+
 enum-known-why : tie.Need-enum-known-why
 enum-known-why c = search needs
 
 returns-2 : tie.Need-returns-2
 returns-2 c =
-    let a = c .before .before .before .before .before .before .before .before .args in
-    let within = part (c .before .before) in
+    let a = c .before .before .before .before .before .before .before .before .before .args in
+    let within = part (c .before .before .before) in
     rw (
-      not-false (a .present) (c .before .before .before .before .before .before .if1 .left),
+      not-false (a .present) (c .before .before .before .before .before .before .before .if1 .left),
       field-whole 2 (a .s .now) (a .at) (omega arith),
       within .place,
     )
@@ -64,6 +70,8 @@ country-code-spec =
     shared-slice-read-t11
     add-t12
     shared-slice-read-t14
+    add-t15
+    shared-slice-read-t17
     enum-known-why
     returns-2
     returns-3)

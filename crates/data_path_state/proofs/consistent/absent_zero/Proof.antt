@@ -4,6 +4,9 @@ use Rattle.data_path_state.proofs.consistent.absent_zero.Statement.{sta
 use Rattle.data_path_state.proofs.consistent.absent_zero.Tie as tie
 use borrow.Author.Needs.{needs}
 
+is-zero-country-requires : tie.Need-is-zero-country-requires
+is-zero-country-requires c κs = search needs
+
 is-zero-channel-requires : tie.Need-is-zero-channel-requires
 is-zero-channel-requires c κs = search needs
 
@@ -22,6 +25,7 @@ is-zero-stats-requires c κs = search needs
 returns : tie.Need-returns
 returns c =
     rw (
+      c .before .before .before .before .before .before .before .before .before .before .before .before .before .before .before .before .before .before .before .before .before .before .is-zero-country .ensures,
       c .before .before .before .before .before .before .before .before .before .before .before .before .before .before .before .before .before .before .before .before .is-zero-channel .ensures,
       c .before .before .before .before .before .before .before .before .before .before .before .before .before .before .before .before .before .before .is-zero-address .ensures,
       c .before .before .before .before .before .before .before .before .before .before .before .before .before .before .before .is-zero-address2 .ensures,
@@ -33,6 +37,7 @@ pub absent-zero-spec : {M : Type 1} → statement M
 absent-zero-spec =
     tie.close
     (tie.spec
+    is-zero-country-requires
     is-zero-channel-requires
     is-zero-address-requires
     is-zero-address-requires-2

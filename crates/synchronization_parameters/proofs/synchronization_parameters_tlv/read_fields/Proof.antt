@@ -9,7 +9,7 @@ use mathlib.Core.Path.{sym, ap}
 
 returns : tie.Need-returns
 returns c =
-    let c7 = c .before .before .before .before .before .before .before .before .before .before .before .before .before in
+    let c7 = c .before .before .before .before .before .before .before .before .before .before .before .before .before .before in
     let c2 = c7 .before .before .before .before .before in
     let c1 = c2 .before .before .before in
     let start = c1 .before .before .before in
@@ -28,5 +28,5 @@ read-fields-spec =
     (search needs) (search needs) (search needs) (search needs) (search needs) (search needs)
     (search needs) (search needs) (search needs) (search needs)
     (search needs) (search needs) (search needs) (search needs) (search needs) (search needs)
-    (search needs) (search needs) (search needs)
+    (search needs) (search needs) (search needs) (search needs)
     returns)
