@@ -1,5 +1,5 @@
 """One reading of docs/01-scope.md (01), in its order and words, with No. 1,
-No. 2, No. 4 and No. 7 of docs/02-change-requests.md (02).
+No. 2, No. 4, No. 5 and No. 7 of docs/02-change-requests.md (02).
 
 It is written from these alone; only the names of bits, and the numbers of types
 and subtypes that 01 does not list, are the Rust's. A reader gives its size
@@ -184,6 +184,7 @@ def write_item(kind, data, buffer):
 
 DATA_PATH_TYPE = 0x0C
 DATA_PATH_SIZES = 2, 57
+FLAGS_KEEP = 0xFFFF
 EXTENDED_KEEP = 0xFF7F
 OPTIONS_KEEP = 0xFFFFFE6A
 MAP_KEEP = 7
@@ -721,3 +722,17 @@ UNICAST_OPTIONS = bits("""
     stop_sidecar_in_rtg_mode start_remote_camera stop_remote_camera
 """)
 CHANNEL_MAP = bits("channel_6 channel_44 channel_149")
+
+
+def check_names(names, keep):
+    """The named bits of a word sum to the mask of what it keeps (02, No. 5);
+    `bits` lays them side by side, so that no two share one."""
+    total = sum(names.values())
+    if total != keep:
+        raise ValueError(f"the names sum to 0x{total:X}, but 0x{keep:X} is kept")
+
+
+check_names(DATA_PATH_FLAGS, FLAGS_KEEP)
+check_names(EXTENDED_FLAGS, EXTENDED_KEEP)
+check_names(UNICAST_OPTIONS, OPTIONS_KEEP)
+check_names(CHANNEL_MAP, MAP_KEEP)

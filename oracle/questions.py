@@ -3,9 +3,9 @@ cut of good ones, cuts around the first byte of each field, offsets of short
 values in their frames, places behind the start and past the end, channel
 sequences with wrong counts and encodings, records of every presence, reserved
 bytes and pads of any value, records that were read and are written again,
-buffers short, exact and long, numbers at the limits of their fields, stamps
-between which the clock has rolled over, bytes in every form, bad questions, and
-lines around the longest one.
+buffers short, exact and long, numbers at the limits of their fields, words with
+one bit set or one clear, stamps between which the clock has rolled over, bytes
+in every form, bad questions, and lines around the longest one.
 """
 
 import re
@@ -43,6 +43,12 @@ def number(limit):
         return str(limit + 1)
     word = str(some(limit))
     return word.zfill(R.randrange(19, 22)) if chance(200) else word
+
+
+def one_bit(limit):
+    """A word with one bit set, or with one clear (02, No. 5)."""
+    bit = 1 << R.randrange(limit.bit_length())
+    return R.choice((bit, limit ^ bit))
 
 
 ROUND = 2 ** 32
@@ -114,9 +120,13 @@ def data_path_value():
             data += R.randbytes(width)
     if flags >> 12 & 1:
         length = R.choice((4, 8)) if chance(1.1) else some(65535)
-        data += awdl.little(length, 2) + R.randbytes(min(length, 12))
+        words = R.randbytes(min(length, 12))
+        if length in (4, 8) and chance(4):
+            words = awdl.little(one_bit(2 ** 32 - 1), 4) + words[4:]
+        data += awdl.little(length, 2) + words
     if flags >> 15 & 1:
         extended = R.getrandbits(16) | (0x0025 if chance(4) else 0)
+        extended = one_bit(65535) if chance(6) else extended
         data += awdl.little(extended, 2)
         for bit, width in ((0, 2), (2, 4), (5, 12)):
             if extended >> bit & 1:
@@ -264,6 +274,8 @@ def field(name, present):
         return present, R.randbytes(6), some(65535)
     if name in ("infra", "awdl"):
         return present, R.randbytes(6)
+    if name in ("options", "extended") and chance(4):
+        return present, one_bit(65535 if name == "extended" else 2 ** 32 - 1)
     if name in ("extended", "trigger"):
         return present, some(65535)
     if name == "stats":
@@ -678,6 +690,11 @@ def small():
     return [f"{name} {number(SMALL[name])}"]
 
 
+def one_bit_kept():
+    name = R.choice(("unicast_options", "extended_flags"))
+    return [f"{name} {one_bit(SMALL[name])}"]
+
+
 def two_words():
     if chance(2):
         return [f"has {number(65535)} {1 << R.getrandbits(4) if chance(2) else number(65535)}"]
@@ -774,7 +791,7 @@ MAKERS = [
     *[synchronization_write] * 3, *[channel_sequence_read] * 3, *[channel_sequence_ask] * 3,
     *[channel_sequence_write] * 3, *[sequence_read] * 2, *[sequence_ask] * 2,
     *[sequence_write] * 2, *[sequence_entry] * 2, *[of_channel] * 2, *[small] * 2,
-    two_words, listed, *[next_line] * 3, *[field_cut] * 6, header_cut,
+    one_bit_kept, two_words, listed, *[next_line] * 3, *[field_cut] * 6, header_cut,
     *[short_in_frame] * 2, *[offset_in_frame] * 3, refusal, *[written_again] * 4,
 ]
 EVERY = [

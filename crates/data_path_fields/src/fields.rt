@@ -16,69 +16,69 @@ pub fn has(word: u16, mask: u16) -> bool
 pub struct DataPathFlags(pub u16);
 
 impl DataPathFlags {
-    pub const INFRA_BSSID_CHANNEL_PRESENT: u16 = 0x0001;
+    pub const INFRA_BSSID_CHANNEL_PRESENT: u16 = 1 << 0;
 
-    pub const INFRA_ADDRESS_PRESENT: u16 = 0x0002;
+    pub const INFRA_ADDRESS_PRESENT: u16 = 1 << 1;
 
-    pub const AWDL_ADDRESS_PRESENT: u16 = 0x0004;
+    pub const AWDL_ADDRESS_PRESENT: u16 = 1 << 2;
 
-    pub const RSDB_SUPPORT: u16 = 0x0008;
+    pub const RSDB_SUPPORT: u16 = 1 << 3;
 
-    pub const IS_UMI: u16 = 0x0010;
+    pub const IS_UMI: u16 = 1 << 4;
 
-    pub const DUALBAND_SUPPORT: u16 = 0x0020;
+    pub const DUALBAND_SUPPORT: u16 = 1 << 5;
 
-    pub const AIRPLAY_SINK: u16 = 0x0040;
+    pub const AIRPLAY_SINK: u16 = 1 << 6;
 
-    pub const FOLLOW_CHANNEL_SEQUENCE: u16 = 0x0080;
+    pub const FOLLOW_CHANNEL_SEQUENCE: u16 = 1 << 7;
 
-    pub const COUNTRY_CODE_PRESENT: u16 = 0x0100;
+    pub const COUNTRY_CODE_PRESENT: u16 = 1 << 8;
 
-    pub const CHANNEL_MAP_PRESENT: u16 = 0x0200;
+    pub const CHANNEL_MAP_PRESENT: u16 = 1 << 9;
 
-    pub const AIRPLAY_SOLO_MODE_SUPPORT: u16 = 0x0400;
+    pub const AIRPLAY_SOLO_MODE_SUPPORT: u16 = 1 << 10;
 
-    pub const UMI_SUPPORT: u16 = 0x0800;
+    pub const UMI_SUPPORT: u16 = 1 << 11;
 
-    pub const UNICAST_OPTIONS_PRESENT: u16 = 0x1000;
+    pub const UNICAST_OPTIONS_PRESENT: u16 = 1 << 12;
 
-    pub const IS_REALTIME: u16 = 0x2000;
+    pub const IS_REALTIME: u16 = 1 << 13;
 
-    pub const RANGEABLE: u16 = 0x4000;
+    pub const RANGEABLE: u16 = 1 << 14;
 
-    pub const EXTENDED_FLAGS: u16 = 0x8000;
+    pub const EXTENDED_FLAGS: u16 = 1 << 15;
 }
 
 pub struct DataPathExtendedFlags(pub u16);
 
 impl DataPathExtendedFlags {
-    pub const LOG_TRIGGER_ID_PRESENT: u16 = 0x0001;
+    pub const LOG_TRIGGER_ID_PRESENT: u16 = 1 << 0;
 
-    pub const RANGING_DISCOVERY_SUPPORTED: u16 = 0x0002;
+    pub const RANGING_DISCOVERY_SUPPORTED: u16 = 1 << 1;
 
-    pub const RLFC_PRESENT: u16 = 0x0004;
+    pub const RLFC_PRESENT: u16 = 1 << 2;
 
-    pub const IS_SOCIAL_CHANNEL_MAP_SUPPORTED: u16 = 0x0008;
+    pub const IS_SOCIAL_CHANNEL_MAP_SUPPORTED: u16 = 1 << 3;
 
-    pub const DYNAMIC_SDB_ACTIVE: u16 = 0x0010;
+    pub const DYNAMIC_SDB_ACTIVE: u16 = 1 << 4;
 
-    pub const STATS_PRESENT: u16 = 0x0020;
+    pub const STATS_PRESENT: u16 = 1 << 5;
 
-    pub const DFS_PROXY_SUPPORT: u16 = 0x0040;
+    pub const DFS_PROXY_SUPPORT: u16 = 1 << 6;
 
-    pub const HIGH_EFFICIENCY_SUPPORT: u16 = 0x0100;
+    pub const HIGH_EFFICIENCY_SUPPORT: u16 = 1 << 8;
 
-    pub const IS_SIDEKICK_HUB: u16 = 0x0200;
+    pub const IS_SIDEKICK_HUB: u16 = 1 << 9;
 
-    pub const FAST_DISCOVERY_ACTIVE: u16 = 0x0400;
+    pub const FAST_DISCOVERY_ACTIVE: u16 = 1 << 10;
 
-    pub const WIFI_SIX_E_SUPPORT: u16 = 0x0800;
+    pub const WIFI_SIX_E_SUPPORT: u16 = 1 << 11;
 
-    pub const ULTRA_LOW_LATENCY_INFRA_SUPPORT: u16 = 0x1000;
+    pub const ULTRA_LOW_LATENCY_INFRA_SUPPORT: u16 = 1 << 12;
 
-    pub const PRO_MODE_ACTIVE: u16 = 0x2000;
+    pub const PRO_MODE_ACTIVE: u16 = 1 << 13;
 
-    pub const UNKNOWN: u16 = 0xC000;
+    pub const UNKNOWN: u16 = 1 << 14 | 1 << 15;
 
     // Bit 7 has no name and is dropped.
     pub const KEEP: u16 = DataPathExtendedFlags::LOG_TRIGGER_ID_PRESENT

@@ -2,6 +2,7 @@
 // fields that the flags announce.
 mod fields;
 mod misc;
+mod names;
 mod read;
 
 pub use fields::CountryCode;

@@ -7,6 +7,7 @@ use Rattle.channel_sequence.proofs.Again as Q′
 use Rattle.channel_sequence.proofs.ReadSequenceTLVs as C
 use Rattle.channel_sequence.proofs.SequenceTLVs as C′
 use Rattle.data_path_fields.proofs.OneBit.{has-bit}
+use Rattle.data_path_fields.proofs.MadeUp.{flags-made-up, extended-made-up, channels-made-up, options-made-up}
 use Rattle.data_path_state.proofs.Sizes.{size-range}
 use Rattle.data_path_state.proofs.Masks.{kept-extended-mask, kept-options-mask}
 use Rattle.data_path_state.proofs.ReadConsistent as D
@@ -39,6 +40,10 @@ demand2 =
       extended-mask = kept-extended-mask;
       options-mask = kept-options-mask;
       legacy-mask = kept-mask;
+      flags-named = flags-made-up;
+      extended-named = extended-made-up;
+      channels-named = channels-made-up;
+      options-named = options-made-up;
       presence = λ k w. sym (has-bit k w refl);
       gaps = gap-exactly;
       gaps-same = gap-same;

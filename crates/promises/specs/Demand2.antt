@@ -22,6 +22,7 @@ use Rattle.channel_sequence.specs.SequenceTLVReader.{channelSequence}
 use Rattle.channel_sequence.specs.Widths.{SequenceInWidth, ChannelSequenceInWidth}
 use Rattle.channel_sequence.specs.Rewritten as Q′
 use Rattle.data_path_fields.specs.Words.{hasAny, extendedKept, optionsKept}
+use Rattle.data_path_fields.specs.Names.{MakeUp, flagNames, extendedNames, channelNames, optionNames}
 use Rattle.data_path_state.specs.declared.data_path_state_tlv.DataPathStateTLV.{DataPathStateTLV}
 use Rattle.data_path_state.specs.DataPath.{dataPath}
 use Rattle.data_path_state.specs.Ranges.{Ranges}
@@ -66,6 +67,11 @@ pub record Demand2 : Type 1 where
   pub extended-mask : (w : ℕ) → wordBy extendedKept w ≡ bitAnd w 0xFF7F
   pub options-mask : (w : ℕ) → wordBy optionsKept w ≡ bitAnd w 0xFFFFFE6A
   pub legacy-mask : (w : ℕ) → keptFlags w ≡ bitAnd w 0x3F
+  -- the names of a word's bits sum to its mask, and no two share a bit; the flags have all sixteen bits, and a map the low three
+  pub flags-named : MakeUp flagNames 0xFFFF
+  pub extended-named : MakeUp extendedNames 0xFF7F
+  pub channels-named : MakeUp channelNames 0x7
+  pub options-named : MakeUp optionNames 0xFFFFFE6A
   -- a word has a bit where it has one of the bits of the mask that is that bit alone
   pub presence : (k w : ℕ) → hasAny w (2 ^ k) ≡ bit k w
   -- a clock of 32 bits goes from the hand-over stamp to the sending stamp in the gap between them, and in no other number of 32 bits;

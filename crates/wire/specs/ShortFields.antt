@@ -42,7 +42,7 @@ pub record ShortExactly {A : Type 0} (r : Reader A) : Type 1 where
   pub only-there : {s : List ℕ} {at p : ℕ} → DoesNotFit r s at p → r s at ≡ refused (Short p)
   pub bounded : {s : List ℕ} {at p : ℕ} → at ≤ length s → r s at ≡ refused (Short p) → (at ≤ p) × (p ≤ length s)
 
--- how many bytes fields of some widths take
+-- the sum of some numbers, as of the widths of fields
 abbrev pub total : List ℕ → ℕ
 total [] = 0
 total (n ∷ ns) = n + total ns
