@@ -1,5 +1,6 @@
 """One reading of docs/01-scope.md (01), in its order and words, with No. 1,
-No. 2, No. 4, No. 5 and No. 7 of docs/02-change-requests.md (02).
+No. 2, No. 4, No. 5 and No. 7 of docs/02-change-requests.md (02). No. 14, which
+is taken up too, reads and writes as they do.
 
 It is written from these alone; only the names of bits, and the numbers of types
 and subtypes that 01 does not list, are the Rust's. A reader gives its size

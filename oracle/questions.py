@@ -3,9 +3,10 @@ cut of good ones, cuts around the first byte of each field, offsets of short
 values in their frames, places behind the start and past the end, channel
 sequences with wrong counts and encodings, records of every presence, reserved
 bytes and pads of any value, records that were read and are written again,
-buffers short, exact and long, numbers at the limits of their fields, words with
-one bit set or one clear, stamps between which the clock has rolled over, bytes
-in every form, bad questions, and lines around the longest one.
+archives of records laid end to end, buffers short, exact and long, numbers at
+the limits of their fields, words with one bit set or one clear, stamps between
+which the clock has rolled over, bytes in every form, bad questions, and lines
+around the longest one.
 """
 
 import re
@@ -604,6 +605,28 @@ def written_again():
     return [*lines, f"{write} {words_of(show(record))}{behind_it} {room}"]
 
 
+def laid():
+    """The bytes of a consistent record, seldom of one that is its flags alone."""
+    record = awdl.mend(data_path())
+    if chance(6):
+        record = awdl.ZERO_DATA_PATH._replace(flags=some(65535) & ~0x9307)
+    return awdl.data_path_bytes(record) if awdl.is_consistent(record) else laid()
+
+
+def archive():
+    """One to five records laid end to end (02, No. 14), read from each place in
+    turn to the empty rest; at times cut inside the last one, or read one byte
+    beside a place as well."""
+    parts = [laid() for _ in range(R.randrange(1, 6))]
+    data = b"".join(parts)
+    places = [sum(map(len, parts[:count])) for count in range(len(parts) + 1)]
+    if chance(3):
+        data = data[:-R.randrange(1, len(parts[-1]))]
+    if chance(3):
+        places.append(max(R.choice(places) + R.choice((-1, 1)), 0))
+    return [f"data_path_read {spell(data[at:])}" for at in places]
+
+
 def every_buffer():
     """A record that is mended into every buffer up to its size and two more."""
     record = awdl.mend(data_path())
@@ -793,6 +816,7 @@ MAKERS = [
     *[sequence_write] * 2, *[sequence_entry] * 2, *[of_channel] * 2, *[small] * 2,
     one_bit_kept, two_words, listed, *[next_line] * 3, *[field_cut] * 6, header_cut,
     *[short_in_frame] * 2, *[offset_in_frame] * 3, refusal, *[written_again] * 4,
+    *[archive] * 2,
 ]
 EVERY = [
     *[every_cut] * 3, *[every_place] * 2, every_buffer, every_channel_sequence_cut,

@@ -9,5 +9,8 @@ pub mod Refusing
 pub mod InFrames
 pub mod Demand1
 pub mod RoundTrips
+pub mod EndToEnd
+pub mod Archives
 pub mod Demand2
 pub mod LaterExample
+pub mod ArchiveExample

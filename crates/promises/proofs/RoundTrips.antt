@@ -12,6 +12,7 @@ use borrow.Author.Tests.{le-leb}
 use Rattle.wire.specs.Reading.{Reader, read}
 use Rattle.wire.specs.Answer.{answer}
 use Rattle.wire.proofs.ReadsBack.{Back}
+use Rattle.channel_sequence.specs.SequenceReader.{sequence}
 use Rattle.channel_sequence.proofs.RoundTrip as Q
 use Rattle.channel_sequence.proofs.SequenceTLVs as C
 use Rattle.data_path_state.specs.Bytes.{recordBytes}
@@ -26,7 +27,7 @@ use Rattle.tlv_items.proofs.RoundTrip as T
 use Rattle.action_frame.specs.Frames as F′
 use Rattle.action_frame.proofs.RoundTrip as F
 use Rattle.tlv_items.specs.Sent.{Sent, AllSendable, sentIn, tailWith}
-use Rattle.promises.specs.Formats.{Format, Fills, RoundTrip, sequences, channelSequences, dataPaths, synchronizations, items, frames}
+use Rattle.promises.specs.Formats.{Format, Fills, RoundTrip, sequences, sequencesIn, channelSequences, dataPaths, synchronizations, items, frames}
 use Rattle.promises.proofs.Tails.{walked-back}
 
 -- what is read back with anything behind is read back from a buffer
@@ -50,6 +51,12 @@ start {bytes = bytes} {a = a} b behind = b .back [] behind ∙ ap (read a) (zero
 
 pub sequence-round : RoundTrip sequences
 sequence-round q ok = let w = Q.round-trip q (ok .0) (ok .1) in fills sequences q (w .bytes) (w .written) (w .size) (start (w .back))
+
+pub sequence-in-round : (encoding : ℕ) → RoundTrip (sequencesIn encoding)
+sequence-in-round encoding q ok =
+    let w = Q.round-trip q (ok .1) (ok .2) in
+    fills (sequencesIn encoding) q (w .bytes) (w .written) (w .size)
+    (λ behind. ap (λ (e : ℕ). sequence e (w .bytes ++ behind) 0) (sym (ok .0)) ∙ start (w .back) behind)
 
 pub channel-sequence-round : RoundTrip channelSequences
 channel-sequence-round c ok =

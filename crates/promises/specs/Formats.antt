@@ -68,6 +68,17 @@ sequences =
       ReadAs = λ q s n. sequence (q .encoding) s 0 ≡ read q n;
     }
 
+-- the sequences of one encoding, which their reader is told
+abbrev pub sequencesIn : ℕ → Format
+sequencesIn encoding =
+    record {
+      Record = ChannelSequence;
+      bytes = Q.bytesOf;
+      size = Q.sizeOf;
+      Consistent = λ q. (q .encoding ≡ encoding) × (length (q .bytes) ≡ 32) × (Q.consistent q ≡ answer true);
+      ReadAs = λ q s n. sequence encoding s 0 ≡ read q n;
+    }
+
 abbrev pub dataPaths : Format
 dataPaths =
     record {

@@ -1,0 +1,70 @@
+-- Records laid end to end, with nothing between them, as an archive has them.
+use Prim.Native.Nat.{ℕ, _+_}
+use mathlib.Core.Path.{_≡_}
+use mathlib.Core.List.{List, [], _∷_, _++_, IsPrefix}
+use mathlib.Core.Logic.{_↔_}
+use lib.ListN.{length, drop}
+use Rattle.wire.specs.Reading.{read}
+use Rattle.wire.specs.Answer.{Answer, answer, _>>=_}
+use Rattle.data_path_state.specs.declared.data_path_state_tlv.DataPathStateTLV.{DataPathStateTLV}
+use Rattle.data_path_state.specs.DataPath.{dataPath}
+use Rattle.data_path_state.specs.Ranges.{Ranges}
+use Rattle.data_path_state.specs.Bytes as D
+use Rattle.promises.specs.Formats.{Format}
+
+abbrev pub AllConsistent : (F : Format) → List (F .Record) → Type 0
+AllConsistent F [] = Unit {0}
+AllConsistent F (r ∷ rest) = F .Consistent r × AllConsistent F rest
+
+-- what is written of each record, one behind the other; a record that is refused ends it
+abbrev pub endToEnd : (F : Format) → List (F .Record) → Answer (List ℕ)
+endToEnd F [] = answer []
+endToEnd F (r ∷ rest) = do
+  bytes ← F .bytes r
+  behind ← endToEnd F rest
+  answer (bytes ++ behind)
+
+-- the records that a caller is given who reads from a place on, and then from the place behind each record, until the bytes are used up
+pub data ReadOn (F : Format) (s : List ℕ) : ℕ → List (F .Record) → Type 0 where
+  usedUp : {at : ℕ} → at ≡ length s → ReadOn F s at []
+  readNext : {at size : ℕ} {r : F .Record} {rest : List (F .Record)} → F .ReadAs r (drop at s) size → ReadOn F s (at + size) rest
+      → ReadOn F s at (r ∷ rest)
+
+-- of some records: laid end to end they are some bytes, and who reads these from place 0 on is given the same records, and nothing else
+pub record Archived (F : Format) (rs : List (F .Record)) : Type 0 where
+  pub bytes : List ℕ
+  pub laid : endToEnd F rs ≡ answer bytes
+  pub back : ReadOn F bytes 0 rs
+  pub back-once : {given : List (F .Record)} → ReadOn F bytes 0 given → given ≡ rs
+
+-- a format whose consistent records can be laid end to end
+pub record EndToEnd (F : Format) : Type 0 where
+  -- no record's bytes are the beginning of another's
+  pub begins-no-other : (r q : F .Record) {xs ys : List ℕ} → F .Consistent r → F .Consistent q → F .bytes r ≡ answer xs → F .bytes q ≡ answer ys
+      → IsPrefix xs ys → r ≡ q
+  -- two lists of them give the same bytes exactly when they are equal
+  pub same-bytes : (rs qs : List (F .Record)) → AllConsistent F rs → AllConsistent F qs → (endToEnd F rs ≡ endToEnd F qs) ↔ (rs ≡ qs)
+  -- every list of them can be read back
+  pub archived : (rs : List (F .Record)) → AllConsistent F rs → Archived F rs
+
+-- a format of which this does not hold: records laid end to end are the bytes of one record, which is not the first of them
+pub record RunTogether (F : Format) : Type 0 where
+  pub first : F .Record
+  pub others : List (F .Record)
+  pub one : F .Record
+  pub differ : ¬ (first ≡ one)
+  pub all-consistent : AllConsistent F (one ∷ first ∷ others)
+  pub bytes : List ℕ
+  pub laid : endToEnd F (first ∷ others) ≡ answer bytes
+  pub written : F .bytes one ≡ answer bytes
+
+-- data path records of which only the widths are asked: their fields are put down as they stand, consistent or not
+abbrev pub uncheckedDataPaths : Format
+uncheckedDataPaths =
+    record {
+      Record = DataPathStateTLV;
+      bytes = λ r. answer (D.recordBytes r);
+      size = λ r. answer (D.sum r);
+      Consistent = Ranges;
+      ReadAs = λ r s n. dataPath s 0 ≡ read r n;
+    }
