@@ -261,6 +261,6 @@ pub(crate) fn answer(call: usize, v: &[u64; 32], bytes: &[u8]) -> Said {
         calls::WORD_OF_CHANNEL => word_of_channel(v),
         calls::UNICAST_OPTIONS => one(UnicastOptions::from_bits(long_at(v, 0)).0 as u64),
         calls::EXTENDED_FLAGS => one(DataPathExtendedFlags::from_bits(word_at(v, 0)).0 as u64),
-        _ => yes_or_no(data_path_fields::has(word_at(v, 0), word_at(v, 1))),
+        _ => yes_or_no(data_path_words::has(word_at(v, 0), word_at(v, 1))),
     }
 }

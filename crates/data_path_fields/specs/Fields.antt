@@ -8,7 +8,7 @@ use Rattle.wire.specs.Reading.{Reader, field, give, refuse, when, _>>=_}
 use Rattle.wire.specs.Numbers.{number, bit}
 use Rattle.wire.specs.Addresses.{zeroAddress, address}
 use Rattle.wire.specs.Words.{wordBy}
-use Rattle.data_path_fields.specs.declared.misc.DataPathChannel.{DataPathChannel}
+use Rattle.data_path_words.specs.declared.misc.DataPathChannel.{DataPathChannel}
 use Rattle.data_path_fields.specs.declared.fields.CountryCode.{CountryCode}
 use Rattle.data_path_fields.specs.declared.fields.OptionalChannel.{OptionalChannel}
 use Rattle.data_path_fields.specs.declared.fields.InfraBssidChannel.{InfraBssidChannel}
@@ -23,7 +23,7 @@ use Rattle.data_path_fields.specs.declared.read.Addresses.{Addresses}
 use Rattle.data_path_fields.specs.declared.read.Unicast.{Unicast}
 use Rattle.data_path_fields.specs.declared.read.Extended.{Extended}
 use Rattle.data_path_fields.specs.declared.read.Body.{Body}
-use Rattle.data_path_fields.specs.Words.{extendedKept, optionsKept, channelOf}
+use Rattle.data_path_words.specs.Words.{extendedKept, optionsKept, channelOf}
 
 abbrev pub noCountry : CountryCode
 noCountry = record { present = false; first = 0; second = 0; pad = 0 }

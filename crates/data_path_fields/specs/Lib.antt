@@ -1,7 +1,4 @@
--- Words: tested and kept bits, and the channel word; Names: which bits have a name; Fields: how the fields are read; Said and Outcomes:
--- what each answer of the code says, and the number, offset and values that it stands for.
-pub mod Words
-pub mod Names
+-- Fields: how the fields are read; Said and Outcomes: what each answer of the code says, and the number, offset and values that it stands for.
 pub mod Fields
 pub mod Said
 pub mod Outcomes

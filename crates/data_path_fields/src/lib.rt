@@ -1,13 +1,9 @@
 // The fields of the data path record, and how they are read: the flags, and behind them only the
 // fields that the flags announce.
 mod fields;
-mod misc;
-mod names;
 mod read;
 
 pub use fields::CountryCode;
-pub use fields::DataPathExtendedFlags;
-pub use fields::DataPathFlags;
 pub use fields::InfraBssidChannel;
 pub use fields::OptionalAddress;
 pub use fields::OptionalChannel;
@@ -16,15 +12,10 @@ pub use fields::OptionalOptions;
 pub use fields::OptionalStats;
 pub use fields::OptionalTriggerId;
 pub use fields::OptionalWord;
-pub use misc::ChannelMap;
-pub use misc::DataPathChannel;
-pub use misc::DataPathStats;
-pub use misc::UnicastOptions;
 
 // The record is put together in a crate of its own, `data_path_state`, since a check's time grows
 // with a crate. Only for that crate the readers of the two parts of a record are public, and with
-// them what they answer, and `has`: a caller takes the record's own reader.
-pub use fields::has;
+// them what they answer: a caller takes the record's own reader.
 pub use read::Addresses;
 pub use read::Body;
 pub use read::Extended;

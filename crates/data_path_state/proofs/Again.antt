@@ -16,10 +16,10 @@ use Rattle.wire.specs.Words.{wordBy}
 use Rattle.wire.proofs.Lawful.{never}
 use Rattle.wire.proofs.Octets.{Octets, OctetField, by-place, number-field, gives-field}
 use Rattle.wire.proofs.Again.{Again, again-give, again-bind, again-step, again-group, again-when, again-optional, again-made, number-again, address-again, again-number, again-joined, again-end}
-use Rattle.data_path_fields.specs.declared.misc.DataPathChannel.{DataPathChannel}
+use Rattle.data_path_words.specs.declared.misc.DataPathChannel.{DataPathChannel}
 use Rattle.data_path_fields.specs.declared.read.Unicast.{Unicast}
 use Rattle.data_path_fields.specs.declared.read.Extended.{Extended}
-use Rattle.data_path_fields.specs.Words.{extendedKept, optionsKept, channelOf, wordOf}
+use Rattle.data_path_words.specs.Words.{extendedKept, optionsKept, channelOf, wordOf}
 use Rattle.data_path_fields.specs.Fields.{noCountry, country, noChannel, channelWord, noInfra, infra, noAddress, oneAddress, addresses, oneWord, optionsAnd}
 use Rattle.data_path_fields.specs.Fields.{noUnicast, unicast, triggerId, stats, noExtended, extended}
 use Rattle.data_path_state.specs.declared.data_path_state_tlv.DataPathStateTLV.{DataPathStateTLV}

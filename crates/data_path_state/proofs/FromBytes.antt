@@ -17,10 +17,10 @@ use Rattle.wire.specs.Words.{wordBy}
 use Rattle.wire.proofs.Octets.{Octets, octets-none, octets-cons, octets-append, octets-cond, octets-little, gives-field, gives-number, gives-address}
 use Rattle.wire.proofs.ReadsBack.{from-bytes}
 use Rattle.wire.proofs.Gives.{Gives, gives-any, gives-give, gives-refuse, gives-bind, gives-group, gives-when, gives-cond, gives-optional}
-use Rattle.data_path_fields.specs.declared.misc.DataPathChannel.{DataPathChannel}
+use Rattle.data_path_words.specs.declared.misc.DataPathChannel.{DataPathChannel}
 use Rattle.data_path_fields.specs.declared.fields.OptionalWord.{OptionalWord}
 use Rattle.data_path_fields.specs.declared.read.Extended.{Extended}
-use Rattle.data_path_fields.specs.Words.{channelOf, wordOf, extendedKept}
+use Rattle.data_path_words.specs.Words.{channelOf, wordOf, extendedKept}
 use Rattle.data_path_fields.specs.Fields.{noCountry, country, noChannel, channelWord, noInfra, infra, noAddress, oneAddress, addresses, noWord, oneWord, optionsAnd, noUnicast, unicast}
 use Rattle.data_path_fields.specs.Fields.{noTriggerId, noStats, noExtended, extended}
 use Rattle.data_path_state.specs.declared.data_path_state_tlv.DataPathStateTLV.{DataPathStateTLV}

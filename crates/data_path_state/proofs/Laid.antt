@@ -25,7 +25,7 @@ use Rattle.data_path_fields.specs.declared.read.Addresses.{Addresses}
 use Rattle.data_path_fields.specs.declared.read.Unicast.{Unicast}
 use Rattle.data_path_fields.specs.declared.read.Extended.{Extended}
 use Rattle.data_path_fields.specs.declared.read.Body.{Body}
-use Rattle.data_path_fields.specs.Words.{extendedKept}
+use Rattle.data_path_words.specs.Words.{extendedKept}
 use Rattle.data_path_fields.specs.Fields.{noCountry, country, noChannel, channelWord, head, noInfra, infra, noAddress, oneAddress, addresses, noUnicast, noWord, oneWord, optionsAnd, unicast}
 use Rattle.data_path_fields.specs.Fields.{noTriggerId, triggerId, noStats, stats, noExtended, extendedOf, extended, body}
 use Rattle.data_path_state.specs.declared.data_path_state_tlv.DataPathStateTLV.{DataPathStateTLV}

@@ -6,7 +6,7 @@ use mathlib.Core.Path.{_≡_, _∙_}
 use lib.Bits.{bitAnd}
 use Rattle.wire.specs.Words.{wordBy}
 use Rattle.wire.proofs.Words.{word-mask}
-use Rattle.data_path_fields.specs.Words.{extendedKept, optionsKept}
+use Rattle.data_path_words.specs.Words.{extendedKept, optionsKept}
 
 pub kept-extended-mask : (w : ℕ) → wordBy extendedKept w ≡ bitAnd w 0xFF7F
 kept-extended-mask w = word-mask extendedKept w ∙ add-zero (bitAnd w 0xFF7F)

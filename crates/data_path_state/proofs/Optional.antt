@@ -11,8 +11,8 @@ use Rattle.data_path_fields.specs.declared.fields.OptionalChannel.{OptionalChan
 use Rattle.data_path_fields.specs.declared.fields.OptionalStats.{OptionalStats}
 use Rattle.data_path_fields.specs.declared.fields.OptionalTriggerId.{OptionalTriggerId}
 use Rattle.data_path_fields.specs.declared.fields.OptionalWord.{OptionalWord}
-use Rattle.data_path_fields.specs.declared.misc.DataPathChannel.{DataPathChannel}
-use Rattle.data_path_fields.specs.declared.misc.DataPathStats.{DataPathStats}
+use Rattle.data_path_words.specs.declared.misc.DataPathChannel.{DataPathChannel}
+use Rattle.data_path_words.specs.declared.misc.DataPathStats.{DataPathStats}
 use Rattle.wire.specs.Addresses.{zeroAddress, addressBytes}
 use Rattle.wire.specs.declared.read.MACAddress.{MACAddress}
 use borrow.Author.Tests.{eqb-true}

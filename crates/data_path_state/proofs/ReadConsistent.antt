@@ -15,7 +15,7 @@ use Rattle.wire.specs.Words.{wordBy}
 use Rattle.wire.proofs.Gives.{Gives, gives-any, gives-give, gives-refuse, gives-bind, gives-when, gives-cond}
 use Rattle.wire.proofs.Tests.{joined, same-as}
 use Rattle.wire.proofs.Words.{word-twice}
-use Rattle.data_path_fields.specs.declared.misc.DataPathChannel.{DataPathChannel}
+use Rattle.data_path_words.specs.declared.misc.DataPathChannel.{DataPathChannel}
 use Rattle.data_path_fields.specs.declared.fields.OptionalAddress.{OptionalAddress}
 use Rattle.data_path_fields.specs.declared.fields.OptionalWord.{OptionalWord}
 use Rattle.data_path_fields.specs.declared.read.Head.{Head}
@@ -23,7 +23,7 @@ use Rattle.data_path_fields.specs.declared.read.Addresses.{Addresses}
 use Rattle.data_path_fields.specs.declared.read.Unicast.{Unicast}
 use Rattle.data_path_fields.specs.declared.read.Extended.{Extended}
 use Rattle.data_path_fields.specs.declared.read.Body.{Body}
-use Rattle.data_path_fields.specs.Words.{extendedKept, optionsKept, channelOf}
+use Rattle.data_path_words.specs.Words.{extendedKept, optionsKept, channelOf}
 use Rattle.data_path_fields.specs.Fields.{noCountry, noChannel, head, noInfra, noAddress, oneAddress, addresses, noWord, oneWord, optionsAnd, noUnicast, unicast}
 use Rattle.data_path_fields.specs.Fields.{noTriggerId, noStats, stats, noExtended, extendedOf, extended, body}
 use Rattle.data_path_state.specs.declared.data_path_state_tlv.DataPathStateTLV.{DataPathStateTLV}

@@ -18,7 +18,7 @@ use Rattle.wire.specs.Words.{wordBy}
 use Rattle.wire.specs.Writing.{within, lengthOf, afterwards}
 use Rattle.wire.proofs.Tests.{both, each, implied}
 use Rattle.wire.proofs.ReadsBack.{Back, bind-back, made-back, field-back, when-back, number-back, address-back}
-use Rattle.data_path_fields.specs.declared.misc.DataPathChannel.{DataPathChannel}
+use Rattle.data_path_words.specs.declared.misc.DataPathChannel.{DataPathChannel}
 use Rattle.data_path_fields.specs.declared.fields.CountryCode.{CountryCode}
 use Rattle.data_path_fields.specs.declared.fields.OptionalChannel.{OptionalChannel}
 use Rattle.data_path_fields.specs.declared.fields.InfraBssidChannel.{InfraBssidChannel}
@@ -30,7 +30,7 @@ use Rattle.data_path_fields.specs.declared.fields.OptionalStats.{OptionalStats}
 use Rattle.data_path_state.specs.declared.data_path_state_tlv.DataPathStateTLV.{DataPathStateTLV}
 use Rattle.data_path_fields.specs.declared.read.Unicast.{Unicast}
 use Rattle.data_path_fields.specs.declared.read.Extended.{Extended}
-use Rattle.data_path_fields.specs.Words.{extendedKept, optionsKept, channelOf, wordOf}
+use Rattle.data_path_words.specs.Words.{extendedKept, optionsKept, channelOf, wordOf}
 use Rattle.data_path_fields.specs.Fields.{noCountry, country, noChannel, channelWord, head, noInfra, infra, noAddress, oneAddress, addresses}
 use Rattle.data_path_fields.specs.Fields.{noWord, oneWord, optionsAnd, optionsOf, noUnicast, unicast, noTriggerId, triggerId, noStats, stats, noExtended, extendedOf, extended}
 use Rattle.data_path_state.specs.DataPath.{dataPath}

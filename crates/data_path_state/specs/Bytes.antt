@@ -6,7 +6,7 @@ use Rattle.wire.specs.declared.refusal.Refusal.the-variants.{Inconsistent}
 use Rattle.wire.specs.Answer.{Answer, answer, require, _>>_}
 use Rattle.wire.specs.Numbers.{littleBytes}
 use Rattle.wire.specs.Addresses.{addressBytes}
-use Rattle.data_path_fields.specs.declared.misc.DataPathStats.{DataPathStats}
+use Rattle.data_path_words.specs.declared.misc.DataPathStats.{DataPathStats}
 use Rattle.data_path_fields.specs.declared.fields.CountryCode.{CountryCode}
 use Rattle.data_path_fields.specs.declared.fields.OptionalChannel.{OptionalChannel}
 use Rattle.data_path_fields.specs.declared.fields.InfraBssidChannel.{InfraBssidChannel}
@@ -15,7 +15,7 @@ use Rattle.data_path_fields.specs.declared.fields.OptionalWord.{OptionalWord}
 use Rattle.data_path_fields.specs.declared.fields.OptionalTriggerId.{OptionalTriggerId}
 use Rattle.data_path_fields.specs.declared.fields.OptionalStats.{OptionalStats}
 use Rattle.data_path_state.specs.declared.data_path_state_tlv.DataPathStateTLV.{DataPathStateTLV}
-use Rattle.data_path_fields.specs.Words.{wordOf}
+use Rattle.data_path_words.specs.Words.{wordOf}
 use Rattle.data_path_state.specs.Consistent.{consistent}
 
 abbrev pub countryBytes : CountryCode → List ℕ

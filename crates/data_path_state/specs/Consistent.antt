@@ -6,11 +6,11 @@ use lib.Dec.{eqb, leb}
 use Rattle.wire.specs.declared.read.MACAddress.{MACAddress}
 use Rattle.wire.specs.Numbers.{bit}
 use Rattle.wire.specs.Words.{wordBy}
-use Rattle.data_path_fields.specs.declared.misc.DataPathChannel.{DataPathChannel}
-use Rattle.data_path_fields.specs.declared.misc.DataPathStats.{DataPathStats}
+use Rattle.data_path_words.specs.declared.misc.DataPathChannel.{DataPathChannel}
+use Rattle.data_path_words.specs.declared.misc.DataPathStats.{DataPathStats}
 use Rattle.data_path_fields.specs.declared.fields.CountryCode.{CountryCode}
 use Rattle.data_path_state.specs.declared.data_path_state_tlv.DataPathStateTLV.{DataPathStateTLV}
-use Rattle.data_path_fields.specs.Words.{extendedKept, optionsKept}
+use Rattle.data_path_words.specs.Words.{extendedKept, optionsKept}
 
 -- each presence bit of the flags says whether its field is there
 abbrev pub flagsMatch : DataPathStateTLV → Bool

@@ -3,7 +3,7 @@ use Prim.Native.Nat.{ℕ, _^_, _<_}
 use lib.ListN.{getD}
 use Rattle.wire.specs.Addresses.{addressBytes}
 use Rattle.data_path_state.specs.declared.data_path_state_tlv.DataPathStateTLV.{DataPathStateTLV}
-use Rattle.data_path_fields.specs.Words.{wordOf}
+use Rattle.data_path_words.specs.Words.{wordOf}
 
 pub record Ranges (r : DataPathStateTLV) : Type 0 where
   pub flags : r .flags .0 < 256 ^ 2

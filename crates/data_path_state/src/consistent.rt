@@ -2,14 +2,14 @@ ghost use mathlib.Core.Path.{_≡_};
 ghost use mathlib.Core.Bool.{_&&_};
 ghost use Rattle.data_path_state.specs.Consistent as C;
 use crate::data_path_state_tlv::DataPathStateTLV;
-use data_path_fields::ChannelMap;
 use data_path_fields::CountryCode;
-use data_path_fields::DataPathChannel;
-use data_path_fields::DataPathExtendedFlags;
-use data_path_fields::DataPathFlags;
-use data_path_fields::DataPathStats;
-use data_path_fields::UnicastOptions;
-use data_path_fields::has;
+use data_path_words::ChannelMap;
+use data_path_words::DataPathChannel;
+use data_path_words::DataPathExtendedFlags;
+use data_path_words::DataPathFlags;
+use data_path_words::DataPathStats;
+use data_path_words::UnicastOptions;
+use data_path_words::has;
 use wire::MACAddress;
 
 // Each test below is a formula, as its definition is; only the two kinds of channel are told apart by a branch.

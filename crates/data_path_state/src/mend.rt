@@ -5,10 +5,6 @@ ghost use Rattle.data_path_fields.specs.Fields.{noCountry, noChannel, noInfra, 
 ghost use Rattle.data_path_state.specs.Mended as M;
 use crate::data_path_state_tlv::DataPathStateTLV;
 use data_path_fields::CountryCode;
-use data_path_fields::DataPathChannel;
-use data_path_fields::DataPathExtendedFlags;
-use data_path_fields::DataPathFlags;
-use data_path_fields::DataPathStats;
 use data_path_fields::InfraBssidChannel;
 use data_path_fields::OptionalAddress;
 use data_path_fields::OptionalChannel;
@@ -17,7 +13,11 @@ use data_path_fields::OptionalOptions;
 use data_path_fields::OptionalStats;
 use data_path_fields::OptionalTriggerId;
 use data_path_fields::OptionalWord;
-use data_path_fields::UnicastOptions;
+use data_path_words::DataPathChannel;
+use data_path_words::DataPathExtendedFlags;
+use data_path_words::DataPathFlags;
+use data_path_words::DataPathStats;
+use data_path_words::UnicastOptions;
 use wire::MACAddress;
 
 // The bits that announce no field, of the flags and of the extended word.

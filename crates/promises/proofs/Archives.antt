@@ -19,7 +19,7 @@ use Rattle.channel_sequence.specs.SequenceReader.{sequence}
 use Rattle.channel_sequence.specs.SequenceTLVReader.{channelSequence}
 use Rattle.data_path_fields.specs.declared.fields.CountryCode.{CountryCode}
 use Rattle.data_path_fields.specs.declared.fields.OptionalChannel.{OptionalChannel}
-use Rattle.data_path_fields.specs.Words.{wordOf}
+use Rattle.data_path_words.specs.Words.{wordOf}
 use Rattle.data_path_fields.specs.Fields.{noCountry, noChannel}
 use Rattle.data_path_state.specs.Ranges.{Ranges}
 use Rattle.data_path_state.specs.Bytes.{recordBytes, sum}

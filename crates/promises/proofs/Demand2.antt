@@ -6,8 +6,8 @@ use Rattle.channel_sequence.proofs.ReadConsistent as Q
 use Rattle.channel_sequence.proofs.Again as Q′
 use Rattle.channel_sequence.proofs.ReadSequenceTLVs as C
 use Rattle.channel_sequence.proofs.SequenceTLVs as C′
-use Rattle.data_path_fields.proofs.OneBit.{has-bit}
-use Rattle.data_path_fields.proofs.MadeUp.{flags-made-up, extended-made-up, channels-made-up, options-made-up}
+use Rattle.data_path_words.proofs.OneBit.{has-bit}
+use Rattle.data_path_words.proofs.MadeUp.{flags-made-up, extended-made-up, channels-made-up, options-made-up}
 use Rattle.data_path_state.proofs.Sizes.{size-range}
 use Rattle.data_path_state.proofs.Masks.{kept-extended-mask, kept-options-mask}
 use Rattle.data_path_state.proofs.ReadConsistent as D

@@ -25,7 +25,7 @@ use Rattle.channel_sequence.specs.Hops.{hopAt}
 use Rattle.channel_sequence.specs.SequenceTLVs as C
 use Rattle.channel_sequence.specs.SequenceTLVReader.{channelSequence}
 use Rattle.channel_sequence.specs.Said.{saidEncoding, saidCorrected, saidConsistent, saidEntry, sequenceRead, sequenceFixed, channelSequenceRead}
-use Rattle.data_path_fields.specs.Words.{hasAny, extendedKept, optionsKept, channelOf, wordOf}
+use Rattle.data_path_words.specs.Words.{hasAny, extendedKept, optionsKept, channelOf, wordOf}
 use Rattle.data_path_fields.specs.Fields.{head, body}
 use Rattle.data_path_fields.specs.Said.{saidHead, saidBody}
 use Rattle.data_path_state.specs.DataPath.{dataPath}
@@ -57,11 +57,12 @@ use Rattle.channel_sequence.proofs.channel.LegacyFlags as flags
 use Rattle.channel_sequence.proofs.channel.Channel as channels
 use Rattle.channel_sequence.proofs.channel_sequence.ChannelSequence as sequences
 use Rattle.channel_sequence.proofs.channel_sequence_tlv.ChannelSequenceTLV as channel-sequences
+use Rattle.data_path_words.proofs as bits
 use Rattle.data_path_fields.proofs as fields
 use Rattle.data_path_state.proofs.data_path_state_tlv.DataPathStateTLV as data-paths
-use Rattle.data_path_fields.proofs.misc.DataPathChannel as words
-use Rattle.data_path_fields.proofs.misc.UnicastOptions as options
-use Rattle.data_path_fields.proofs.fields.DataPathExtendedFlags as extended
+use Rattle.data_path_words.proofs.misc.DataPathChannel as words
+use Rattle.data_path_words.proofs.misc.UnicastOptions as options
+use Rattle.data_path_words.proofs.flags.DataPathExtendedFlags as extended
 use Rattle.synchronization_parameters.proofs.synchronization_parameters_tlv.SynchronizationParametersTLV as synchronizations
 use Rattle.tlv_items.proofs as items
 use Rattle.tlvs.proofs as tlvs
@@ -176,7 +177,7 @@ pub record EveryCall : Type 2 where
       (λ κs a r e. saidHead r ≡ head (now (a .0)) 0)
   pub data-path-body : Call fields.read_body.Symbol.routine fields.read_body.ended
       (λ κs a r e. saidBody r ≡ body (a .1 .1 .0) (now (a .0)) (a .1 .0))
-  pub word-has : Call fields.has.Symbol.routine fields.has.ended
+  pub word-has : Call bits.has.Symbol.routine bits.has.ended
       (λ κs a r e. r ≡ hasAny (a .0) (a .1 .0))
   pub channel-word-from-u16 : Call words.from_u16.Symbol.routine words.from_u16.ended
       (λ κs a r e. r ≡ channelOf (a .0))
@@ -300,7 +301,7 @@ every-call =
       data-path-write = λ M. data-paths.write.Met.met;
       data-path-head = λ M. fields.read_head.Met.met;
       data-path-body = λ M. fields.read_body.Met.met;
-      word-has = λ M. fields.has.Met.met;
+      word-has = λ M. bits.has.Met.met;
       channel-word-from-u16 = λ M. words.from_u16.Met.met;
       channel-word-as-u16 = λ M. words.as_u16.Met.met;
       unicast-options-from-bits = λ M. options.from_bits.Met.met;

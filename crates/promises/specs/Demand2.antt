@@ -21,8 +21,8 @@ use Rattle.channel_sequence.specs.SequenceTLVs as C
 use Rattle.channel_sequence.specs.SequenceTLVReader.{channelSequence}
 use Rattle.channel_sequence.specs.Widths.{SequenceInWidth, ChannelSequenceInWidth}
 use Rattle.channel_sequence.specs.Rewritten as Q′
-use Rattle.data_path_fields.specs.Words.{hasAny, extendedKept, optionsKept}
-use Rattle.data_path_fields.specs.Names.{MakeUp, flagNames, extendedNames, channelNames, optionNames}
+use Rattle.data_path_words.specs.Words.{hasAny, extendedKept, optionsKept}
+use Rattle.data_path_words.specs.Names.{MakeUp, flagNames, extendedNames, channelNames, optionNames}
 use Rattle.data_path_state.specs.declared.data_path_state_tlv.DataPathStateTLV.{DataPathStateTLV}
 use Rattle.data_path_state.specs.DataPath.{dataPath}
 use Rattle.data_path_state.specs.Ranges.{Ranges}

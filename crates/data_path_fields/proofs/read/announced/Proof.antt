@@ -1,6 +1,6 @@
 -- `announced` meets its contract: each step is the next line of `extendedOf`.
 -- Assumes nothing.
-use Rattle.data_path_fields.proofs.OneBit.{has-bit}
+use Rattle.data_path_words.proofs.OneBit.{has-bit}
 use Rattle.data_path_fields.proofs.read.announced.Statement.{statement}
 use Rattle.data_path_fields.proofs.read.announced.Tie as tie
 use Rattle.data_path_fields.specs.Said.{saidStats, saidTriggerId, saidWord}

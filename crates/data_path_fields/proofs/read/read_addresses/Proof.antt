@@ -1,6 +1,6 @@
 -- `read_addresses` meets its contract: each step is the next line of `addresses`.
 -- Assumes nothing.
-use Rattle.data_path_fields.proofs.OneBit.{has-bit}
+use Rattle.data_path_words.proofs.OneBit.{has-bit}
 use Rattle.data_path_fields.proofs.read.read_addresses.Statement.{statement}
 use Rattle.data_path_fields.proofs.read.read_addresses.Tie as tie
 use Rattle.data_path_fields.specs.Said.{saidOptionalAddress, saidInfra}

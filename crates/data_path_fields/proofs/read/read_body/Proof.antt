@@ -1,6 +1,6 @@
 -- `read_body` meets its contract: each step is the next line of `body`.
 -- Assumes nothing.
-use Rattle.data_path_fields.proofs.OneBit.{has-bit}
+use Rattle.data_path_words.proofs.OneBit.{has-bit}
 use Rattle.data_path_fields.proofs.read.read_body.Statement.{statement}
 use Rattle.data_path_fields.proofs.read.read_body.Tie as tie
 use Rattle.data_path_fields.specs.Said.{saidAddresses, saidExtended, saidUnicast}

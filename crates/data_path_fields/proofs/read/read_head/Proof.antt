@@ -1,6 +1,6 @@
 -- `read_head` meets its contract: each step is the next line of `head`.
 -- Assumes nothing.
-use Rattle.data_path_fields.proofs.OneBit.{has-bit}
+use Rattle.data_path_words.proofs.OneBit.{has-bit}
 use Rattle.data_path_fields.proofs.read.read_head.Statement.{statement}
 use Rattle.data_path_fields.proofs.read.read_head.Tie as tie
 use Rattle.data_path_fields.specs.Said.{saidChannel, saidCountry}

@@ -1,6 +1,6 @@
 -- `bits_match` meets its contract: each test by a mask of one bit is the bit of its definition.
 -- Assumes nothing.
-use Rattle.data_path_fields.proofs.OneBit.{has-bit}
+use Rattle.data_path_words.proofs.OneBit.{has-bit}
 use Rattle.data_path_state.proofs.consistent.bits_match.Statement.{statement}
 use Rattle.data_path_state.proofs.consistent.bits_match.Tie as tie
 use borrow.Author.Needs.{needs}

@@ -5,7 +5,7 @@ use Rattle.data_path_state.proofs.Bits.{valued}
 use Rattle.data_path_state.proofs.mend.mend_flags.Statement.{statement}
 use Rattle.data_path_state.proofs.mend.mend_flags.Tie as tie
 use Rattle.data_path_state.specs.Mended.{flagsRuns, hasOptions, hasExtended}
-use Rattle.data_path_fields.specs.declared.fields.DataPathFlags.{DataPathFlags}
+use Rattle.data_path_words.specs.declared.flags.DataPathFlags.{DataPathFlags}
 use Rattle.wire.proofs.Words.{word-mask}
 use borrow.Author.Needs.{needs}
 use lib.Bits.{and-le-r}

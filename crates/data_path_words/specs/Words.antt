@@ -6,7 +6,7 @@ use lib.Bits.{bitAnd}
 use lib.Dec.{eqb}
 use Rattle.wire.specs.Numbers.{bit}
 use Rattle.wire.specs.Words.{Run, keep, clear}
-use Rattle.data_path_fields.specs.declared.misc.DataPathChannel.{DataPathChannel}
+use Rattle.data_path_words.specs.declared.misc.DataPathChannel.{DataPathChannel}
 
 -- whether a word has one of the bits that a mask has
 abbrev pub hasAny : ℕ → ℕ → Bool

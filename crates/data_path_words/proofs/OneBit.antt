@@ -10,7 +10,7 @@ use lib.Bits.{bitAnd, and-high}
 use lib.Dec.{eqb}
 use lib.Pow.{pow-pos, high-ones}
 use Rattle.wire.specs.Numbers.{bits, bit}
-use Rattle.data_path_fields.specs.Words.{hasAny}
+use Rattle.data_path_words.specs.Words.{hasAny}
 
 one-left : (x n : ℕ) → x < 2 → 0 < n → not (eqb (x * n) 0) ≡ eqb x 1
 one-left zero n h p = rw (eq-eqb (0 * n) 0 (omega arith))

@@ -1,6 +1,6 @@
 ghost use mathlib.Core.Path.{_≡_};
 ghost use Rattle.wire.specs.Words.{wordBy};
-ghost use Rattle.data_path_fields.specs.Words.{channelOf, wordOf, optionsKept};
+ghost use Rattle.data_path_words.specs.Words.{channelOf, wordOf, optionsKept};
 
 pub struct DataPathStats {
     pub msec_since_activation: u32,

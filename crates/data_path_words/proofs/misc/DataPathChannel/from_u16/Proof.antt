@@ -1,7 +1,7 @@
 -- `DataPathChannel::from_u16` meets its contract: the lowest bit tells a map from a single channel.
 -- Assumes nothing.
-use Rattle.data_path_fields.proofs.misc.DataPathChannel.from_u16.Statement.{statement}
-use Rattle.data_path_fields.proofs.misc.DataPathChannel.from_u16.Tie as tie
+use Rattle.data_path_words.proofs.misc.DataPathChannel.from_u16.Statement.{statement}
+use Rattle.data_path_words.proofs.misc.DataPathChannel.from_u16.Tie as tie
 use Rattle.wire.specs.Numbers.{bits}
 use borrow.Author.Needs.{needs}
 use borrow.Author.Tests.{eq-eqb, ne-eqb}

@@ -1,8 +1,8 @@
 ghost use mathlib.Core.Path.{_≡_};
 ghost use Rattle.wire.specs.ShortFields.{total};
-ghost use Rattle.data_path_fields.specs.Names.{flagNames, extendedNames, channelNames, optionNames};
-use crate::fields::DataPathExtendedFlags;
-use crate::fields::DataPathFlags;
+ghost use Rattle.data_path_words.specs.Names.{flagNames, extendedNames, channelNames, optionNames};
+use crate::flags::DataPathExtendedFlags;
+use crate::flags::DataPathFlags;
 use crate::misc::ChannelMap;
 use crate::misc::UnicastOptions;
 

@@ -11,7 +11,7 @@ use lib.Dec.{eqb}
 use lib.ListN.{getD}
 use Rattle.wire.specs.ShortFields.{total}
 use Rattle.wire.proofs.Tests.{both}
-use Rattle.data_path_fields.specs.Names.{MakeUp, flagNames, extendedNames, channelNames, optionNames}
+use Rattle.data_path_words.specs.Names.{MakeUp, flagNames, extendedNames, channelNames, optionNames}
 
 -- a number that has no bit in common with any of some others
 abbrev beside : ℕ → List ℕ → Bool
