@@ -24,9 +24,9 @@ use Rattle.action_frame.proofs.Gaps.{gap-exactly, gap-same}
 use Rattle.report.proofs.Report.{gives-dump, gives-once}
 use Rattle.promises.specs.Demand2.{Demand2}
 use Rattle.promises.proofs.RoundTrips.{sequence-round, channel-sequence-round, data-path-round, synchronization-round, item-round, frame-round, tail-round}
-use Rattle.promises.proofs.EndToEnd.{not-both}
+use Rattle.promises.proofs.EndToEnd.{end-to-end, run-together}
 use Rattle.promises.proofs.Archives.{data-path-archive, channel-sequence-archive, synchronization-archive, item-archive, sequence-archive}
-use Rattle.promises.proofs.Archives.{sequences-run, frames-run, unchecked-run}
+use Rattle.promises.proofs.Archives.{sequences-run, frames-run, unchecked-run, unmended-run}
 
 pub demand2 : Demand2
 demand2 =
@@ -71,15 +71,17 @@ demand2 =
       synchronizations-exactly = S′.consistent-exactly;
       mended-consistent = mended-consistent;
       mended-same = mended-same;
+      laid-end-to-end = end-to-end;
       data-paths-end-to-end = data-path-archive;
       channel-sequences-end-to-end = channel-sequence-archive;
       synchronizations-end-to-end = synchronization-archive;
       items-end-to-end = item-archive;
       sequences-end-to-end = sequence-archive;
+      run-together = run-together;
       sequences-run-together = sequences-run;
       frames-run-together = frames-run;
       unchecked-run-together = unchecked-run;
-      not-both = not-both;
+      unmended-run-together = unmended-run;
       tails = tail-round;
       walked = gives-walk;
       walked-once = λ tail g. gives-walk-once g (gives-walk tail);

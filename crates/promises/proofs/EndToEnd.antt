@@ -1,30 +1,24 @@
 -- Records laid end to end are read back one by one, since each is read with anything behind it; so the bytes tell which records they are.
 -- Assumes nothing.
 use Prim.Native.Nat.{ℕ, _+_}
-use mathlib.Core.Path.{_≡_, refl, sym, ap, ap₂, _∙_}
-use mathlib.Core.List.{List, [], _∷_, _++_, append-assoc, append-nil, IsPrefix}
+use mathlib.Core.Path.{_≡_, refl, ap, ap₂}
+use mathlib.Core.List.{List, [], _∷_, _++_, append-assoc, append-nil}
 use lib.ListN.{length, drop, length-append}
 use lib.Seq.{drop-append-seam, drop-length}
 use Rattle.wire.specs.Answer.{answer}
 use Rattle.promises.specs.Formats.{Format, RoundTrip}
-use Rattle.promises.specs.EndToEnd.{AllConsistent, endToEnd, ReadOn, usedUp, readNext, EndToEnd, RunTogether}
+use Rattle.promises.specs.EndToEnd.{AllConsistent, endToEnd, BeginsNoOther, ToldByBytes, ReadOn, usedUp, readNext, EndToEnd, OneReading, RunTogether}
 
--- what stands at the start of some bytes is read as one record, with one size, and of no bytes none is read
-pub record Tells (F : Format) : Type 0 where
-  pub once : {r q : F .Record} {s : List ℕ} {m n : ℕ} → F .ReadAs r s m → F .ReadAs q s n → (r ≡ q) × (m ≡ n)
-  pub some : {r : F .Record} {n : ℕ} → F .ReadAs r [] n → ⊥
-
-module _ (F : Format) (round : RoundTrip F) (tells : Tells F) where
-  no-other : (r q : F .Record) {xs ys : List ℕ} → F .Consistent r → F .Consistent q → F .bytes r ≡ answer xs → F .bytes q ≡ answer ys
-      → IsPrefix xs ys → r ≡ q
-  no-other r q {xs} {ys} r-ok q-ok r-written q-written begins =
+module _ (F : Format) (round : RoundTrip F) (reading : OneReading F) where
+  no-other : BeginsNoOther F
+  no-other r q xs ys r-ok q-ok r-written q-written begins =
       let first = round r r-ok in
       let second = round q q-ok in
       let r-bytes : first .bytes ≡ xs = cc (first .written) in
       let q-bytes : second .bytes ≡ ys = cc (second .written) in
       let r-read : F .ReadAs r ys (length xs) = rw (← begins .1, ← r-bytes) (first .found (begins .0)) in
       let q-read : F .ReadAs q ys (length ys) = rw (append-nil, q-bytes) at (second .found []) in
-      tells .once r-read q-read .0
+      reading .alike r-read q-read .0
 
   -- what a list is laid down as; whatever stands before it, it is read from its place on
   record LaidDown (rs : List (F .Record)) : Type 0 where
@@ -50,14 +44,14 @@ module _ (F : Format) (round : RoundTrip F) (tells : Tells F) where
 
   read-once : (s : List ℕ) {at : ℕ} {rs qs : List (F .Record)} → ReadOn F s at rs → ReadOn F s at qs → rs ≡ qs
   read-once s (usedUp e) (usedUp f) = refl
-  read-once s (usedUp e) (readNext h more) = absurd (tells .some (rw (e, drop-length s) at h))
-  read-once s (readNext h more) (usedUp e) = absurd (tells .some (rw (e, drop-length s) at h))
+  read-once s (usedUp e) (readNext h more) = absurd (reading .needs-bytes (rw (e, drop-length s) at h))
+  read-once s (readNext h more) (usedUp e) = absurd (reading .needs-bytes (rw (e, drop-length s) at h))
   read-once s (readNext h more) (readNext k others) =
-      let same = tells .once h k in
+      let same = reading .alike h k in
       ap₂ (λ (x : F .Record) (xs : List (F .Record)). x ∷ xs) (same .0) (read-once s more (rw (← same .1) at others))
 
-  told-apart : (rs qs : List (F .Record)) → AllConsistent F rs → AllConsistent F qs → endToEnd F rs ≡ endToEnd F qs → rs ≡ qs
-  told-apart rs qs rs-ok qs-ok e =
+  same-records : (rs qs : List (F .Record)) → AllConsistent F rs → AllConsistent F qs → endToEnd F rs ≡ endToEnd F qs → rs ≡ qs
+  same-records rs qs rs-ok qs-ok e =
       let one = laid-down rs rs-ok in
       let other = laid-down qs qs-ok in
       let same : other .bytes ≡ one .bytes = cc (one .laid, other .laid) in
@@ -66,17 +60,19 @@ module _ (F : Format) (round : RoundTrip F) (tells : Tells F) where
   pub end-to-end : EndToEnd F
   end-to-end =
       record {
-        begins-no-other = λ r q r-ok q-ok r-written q-written begins. no-other r q r-ok q-ok r-written q-written begins;
-        same-bytes = λ rs qs rs-ok qs-ok. (told-apart rs qs rs-ok qs-ok, λ e. ap (endToEnd F) e);
+        begins-no-other = no-other;
+        told-by-bytes = λ rs qs rs-ok qs-ok. (same-records rs qs rs-ok qs-ok, λ e. ap (endToEnd F) e);
         archived = λ rs ok.
             let w = laid-down rs ok in
             record { bytes = w .bytes; laid = w .laid; back = w .read-on []; back-once = λ given. read-once (w .bytes) given (w .read-on []) };
       }
 
--- a format cannot be of both kinds
-pub not-both : (F : Format) → EndToEnd F → RunTogether F → ⊥
-not-both F e t =
+-- a record's bytes begin another's, and a list gives the bytes of that other one alone
+pub run-together : (F : Format) → RunTogether F → (¬ BeginsNoOther F) × (¬ ToldByBytes F)
+run-together F t =
     let ok = t .all-consistent in
-    let alone : endToEnd F (t .one ∷ []) ≡ answer (t .bytes) = rw (t .written, append-nil) in
-    let same : t .first ∷ t .others ≡ t .one ∷ [] = e .same-bytes (t .first ∷ t .others) (t .one ∷ []) (ok .1) (ok .0, tt) .0 (t .laid ∙ sym alone) in
-    t .differ (cc)
+    let all : endToEnd F (t .first ∷ t .others) ≡ endToEnd F (t .another ∷ []) = rw (t .first-written, t .others-laid, t .another-written, append-nil) in (
+      λ (claim : BeginsNoOther F).
+          t .differ (claim (t .first) (t .another) (t .bytes) (t .bytes ++ t .behind) (ok .1 .0) (ok .0) (t .first-written) (t .another-written) (t .behind, refl)),
+      λ (claim : ToldByBytes F). let same = claim (t .first ∷ t .others) (t .another ∷ []) (ok .1) (ok .0, tt) .0 all in t .differ (cc),
+    )

@@ -12,7 +12,6 @@ use borrow.Author.Tests.{le-leb}
 use Rattle.wire.specs.Reading.{Reader, read}
 use Rattle.wire.specs.Answer.{answer}
 use Rattle.wire.proofs.ReadsBack.{Back}
-use Rattle.channel_sequence.specs.SequenceReader.{sequence}
 use Rattle.channel_sequence.proofs.RoundTrip as Q
 use Rattle.channel_sequence.proofs.SequenceTLVs as C
 use Rattle.data_path_state.specs.Bytes.{recordBytes}
@@ -54,9 +53,8 @@ sequence-round q ok = let w = Q.round-trip q (ok .0) (ok .1) in fills sequences 
 
 pub sequence-in-round : (encoding : ℕ) → RoundTrip (sequencesIn encoding)
 sequence-in-round encoding q ok =
-    let w = Q.round-trip q (ok .1) (ok .2) in
-    fills (sequencesIn encoding) q (w .bytes) (w .written) (w .size)
-    (λ behind. ap (λ (e : ℕ). sequence e (w .bytes ++ behind) 0) (sym (ok .0)) ∙ start (w .back) behind)
+    let w = sequence-round q (ok .1) in
+    fills (sequencesIn encoding) q (w .bytes) (w .written) (w .size) (λ behind. rw (← ok .0) (w .found behind))
 
 pub channel-sequence-round : RoundTrip channelSequences
 channel-sequence-round c ok =

@@ -50,7 +50,7 @@ use Rattle.report.specs.Lines.{dumpLines}
 use Rattle.report.specs.Marks.{firstMark, GivesLines}
 use Rattle.promises.specs.Formats as formats
 use Rattle.promises.specs.Formats.{Bytes, Format, RoundTrip}
-use Rattle.promises.specs.EndToEnd.{EndToEnd, RunTogether, uncheckedDataPaths}
+use Rattle.promises.specs.EndToEnd.{BeginsNoOther, ToldByBytes, EndToEnd, OneReading, RunTogether, uncheckedDataPaths, unmendedDataPaths}
 
 pub record Demand2 : Type 1 where
   -- a consistent record that is written into enough room fills exactly its size, and reads back as itself
@@ -120,17 +120,21 @@ pub record Demand2 : Type 1 where
   -- mending makes a record consistent, unless its channel is present and wrong, and leaves a consistent one as it is
   pub mended-consistent : (r : DataPathStateTLV) → ChannelRight r → consistent (mended r) ≡ true
   pub mended-same : (r : DataPathStateTLV) → r .flags .0 < 2 ^ 16 → consistent r ≡ true → mended r ≡ r
-  -- consistent records can be laid end to end, with nothing between them; sequences where the encoding is known
+  -- consistent records can be laid end to end, with nothing between them, in every format that is read back with anything behind it and whose reader
+  -- finds one record; sequences, where all have one encoding
+  pub laid-end-to-end : (F : Format) → RoundTrip F → OneReading F → EndToEnd F
   pub data-paths-end-to-end : EndToEnd formats.dataPaths
   pub channel-sequences-end-to-end : EndToEnd formats.channelSequences
   pub synchronizations-end-to-end : EndToEnd formats.synchronizations
   pub items-end-to-end : EndToEnd formats.items
   pub sequences-end-to-end : (encoding : ℕ) → EndToEnd (formats.sequencesIn encoding)
-  -- sequences in any encoding cannot, nor frames, whose tail goes to the end, nor data path records that need not be consistent
+  -- where records run together neither claim holds: sequences of mixed encodings, frames, whose tail goes to the end, and data path records that need not
+  -- be consistent, or are told apart by what they were before mending
+  pub run-together : (F : Format) → RunTogether F → (¬ BeginsNoOther F) × (¬ ToldByBytes F)
   pub sequences-run-together : RunTogether formats.sequences
   pub frames-run-together : RunTogether formats.frames
   pub unchecked-run-together : RunTogether uncheckedDataPaths
-  pub not-both : (F : Format) → EndToEnd F → ¬ RunTogether F
+  pub unmended-run-together : RunTogether unmendedDataPaths
   -- items that are written one behind the other are the items that the walk gives, each whole
   pub tails : (its : List Sent) → AllSendable its → (sentIn (tailWith its) ≡ its) × (walk (tailWith its) .ending ≡ whole)
   -- a caller who goes on step by step is given the walk's items and its end, and nothing else

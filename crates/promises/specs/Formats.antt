@@ -73,9 +73,9 @@ abbrev pub sequencesIn : ℕ → Format
 sequencesIn encoding =
     record {
       Record = ChannelSequence;
-      bytes = Q.bytesOf;
-      size = Q.sizeOf;
-      Consistent = λ q. (q .encoding ≡ encoding) × (length (q .bytes) ≡ 32) × (Q.consistent q ≡ answer true);
+      bytes = sequences .bytes;
+      size = sequences .size;
+      Consistent = λ q. (q .encoding ≡ encoding) × (sequences .Consistent q);
       ReadAs = λ q s n. sequence encoding s 0 ≡ read q n;
     }
 
