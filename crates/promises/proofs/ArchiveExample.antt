@@ -1,4 +1,4 @@
--- Two records laid end to end, byte by byte: a country whose pad is not 0, and a single channel. Each is read from its own place, and nothing else is.
+-- Two records laid end to end, byte by byte: a country whose pad is not 0, and a single channel. Each is read from its own place, and who reads on from place 0 is given nothing else.
 -- Assumes nothing.
 use Prim.Native.Nat.{ℕ}
 use mathlib.Core.Path.{_≡_, refl}

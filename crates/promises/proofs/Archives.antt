@@ -1,4 +1,4 @@
--- Which formats can be laid end to end: those whose reader goes by the bytes alone. Where it is told more, or records need not be consistent, or are mended first, some run together.
+-- Which formats can be laid end to end: those whose records are all read by one reader that goes by the bytes. Where each has a reader of its own, an end of its own, or need not come back as it was, some run together.
 -- Assumes nothing.
 use Prim.Native.Nat.{ℕ, _^_, _<_}
 use native.Mathlib.Omega.{arith}
@@ -17,9 +17,9 @@ use Rattle.channel_sequence.specs.Channels.{encodingOf}
 use Rattle.channel_sequence.specs.Sequences.{zeroSequence}
 use Rattle.channel_sequence.specs.SequenceReader.{sequence}
 use Rattle.channel_sequence.specs.SequenceTLVReader.{channelSequence}
+use Rattle.data_path_words.specs.Words.{wordOf}
 use Rattle.data_path_fields.specs.declared.fields.CountryCode.{CountryCode}
 use Rattle.data_path_fields.specs.declared.fields.OptionalChannel.{OptionalChannel}
-use Rattle.data_path_words.specs.Words.{wordOf}
 use Rattle.data_path_fields.specs.Fields.{noCountry, noChannel}
 use Rattle.data_path_state.specs.declared.data_path_state_tlv.DataPathStateTLV.{DataPathStateTLV}
 use Rattle.data_path_state.specs.Ranges.{Ranges}
@@ -88,15 +88,15 @@ item-reading =
 pub item-archive : EndToEnd items
 item-archive = end-to-end items item-round item-reading
 
--- two simple sequences of zeros are the bytes of a legacy one
+-- two simple sequences of zeros are the bytes of one whose zeros are channels and operating classes
 pub sequences-run : RunTogether sequences
 unfolding encodingOf
 sequences-run =
     record {
       first = zeroSequence;
       others = zeroSequence ∷ [];
-      another = record { encoding = 1; bytes = replicate 32 0 };
-      differ = λ e. let z : _≡_ {A = ℕ} 0 1 = ap (λ (q : ChannelSequence). q .encoding) e in omega arith;
+      another = record { encoding = 3; bytes = replicate 32 0 };
+      differ = λ e. let z : _≡_ {A = ℕ} 0 3 = ap (λ (q : ChannelSequence). q .encoding) e in omega arith;
       all-consistent = ((refl, refl), ((refl, refl), ((refl, refl), tt)));
       bytes = replicate 16 0;
       behind = replicate 16 0;

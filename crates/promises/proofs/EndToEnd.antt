@@ -7,7 +7,7 @@ use lib.ListN.{length, drop, length-append}
 use lib.Seq.{drop-append-seam, drop-length}
 use Rattle.wire.specs.Answer.{answer}
 use Rattle.promises.specs.Formats.{Format, RoundTrip}
-use Rattle.promises.specs.EndToEnd.{AllConsistent, endToEnd, BeginsNoOther, ToldByBytes, ReadOn, usedUp, readNext, EndToEnd, OneReading, RunTogether}
+use Rattle.promises.specs.EndToEnd.{AllConsistent, endToEnd, BeginsNoOther, ToldByBytes, ReadOn, usedUp, readNext, AllArchived, EndToEnd, OneReading, RunTogether}
 
 module _ (F : Format) (round : RoundTrip F) (reading : OneReading F) where
   no-other : BeginsNoOther F
@@ -67,12 +67,18 @@ module _ (F : Format) (round : RoundTrip F) (reading : OneReading F) where
             record { bytes = w .bytes; laid = w .laid; back = w .read-on []; back-once = λ given. read-once (w .bytes) given (w .read-on []) };
       }
 
--- a record's bytes begin another's, and a list gives the bytes of that other one alone
-pub run-together : (F : Format) → RunTogether F → (¬ BeginsNoOther F) × (¬ ToldByBytes F)
+-- a record's bytes begin another's, and a list gives the bytes of that other one alone, so that both would be read back of them
+pub run-together : (F : Format) → RunTogether F → (¬ BeginsNoOther F) × (¬ ToldByBytes F) × (¬ AllArchived F)
 run-together F t =
     let ok = t .all-consistent in
     let all : endToEnd F (t .first ∷ t .others) ≡ endToEnd F (t .another ∷ []) = rw (t .first-written, t .others-laid, t .another-written, append-nil) in (
       λ (claim : BeginsNoOther F).
           t .differ (claim (t .first) (t .another) (t .bytes) (t .bytes ++ t .behind) (ok .1 .0) (ok .0) (t .first-written) (t .another-written) (t .behind, refl)),
       λ (claim : ToldByBytes F). let same = claim (t .first ∷ t .others) (t .another ∷ []) (ok .1) (ok .0, tt) .0 all in t .differ (cc),
+      λ (claim : AllArchived F).
+          let list = claim (t .first ∷ t .others) (ok .1) in
+          let alone = claim (t .another ∷ []) (ok .0, tt) in
+          let bytes : alone .bytes ≡ list .bytes = cc (all, list .laid, alone .laid) in
+          let same = list .back-once (rw bytes at (alone .back)) in
+          t .differ (cc),
     )

@@ -48,13 +48,16 @@ pub record Archived (F : Format) (rs : List (F .Record)) : Type 0 where
   pub back : ReadOn F bytes 0 rs
   pub back-once : {given : List (F .Record)} → ReadOn F bytes 0 given → given ≡ rs
 
+abbrev pub AllArchived : Format → Type 0
+AllArchived F = (rs : List (F .Record)) → AllConsistent F rs → Archived F rs
+
 -- a format whose consistent records can be laid end to end
 pub record EndToEnd (F : Format) : Type 0 where
   pub begins-no-other : BeginsNoOther F
   pub told-by-bytes : ToldByBytes F
-  pub archived : (rs : List (F .Record)) → AllConsistent F rs → Archived F rs
+  pub archived : AllArchived F
 
--- what that takes, beside the round trip: at the start of some bytes no more than one record is read, with one size, and of no bytes none
+-- enough for that, with the round trip: at the start of some bytes no more than one record is read, with one size, and of no bytes none
 pub record OneReading (F : Format) : Type 0 where
   pub alike : {r q : F .Record} {s : List ℕ} {m n : ℕ} → F .ReadAs r s m → F .ReadAs q s n → (r ≡ q) × (m ≡ n)
   pub needs-bytes : {r : F .Record} {n : ℕ} → ¬ F .ReadAs r [] n
@@ -72,18 +75,18 @@ pub record RunTogether (F : Format) : Type 0 where
   pub others-laid : endToEnd F others ≡ answer behind
   pub another-written : F .bytes another ≡ answer (bytes ++ behind)
 
--- data path records of which only the widths are asked: their fields are put down as they stand, consistent or not
+-- data path records of which only the widths are asked: the bytes are those of a consistent record's fields, and nobody asks whether it is one
 abbrev pub uncheckedDataPaths : Format
 uncheckedDataPaths =
     record {
       Record = DataPathStateTLV;
       bytes = λ r. answer (D.recordBytes r);
-      size = λ r. answer (D.sum r);
+      size = λ r. answer (length (D.recordBytes r));
       Consistent = Ranges;
       ReadAs = λ r s n. dataPath s 0 ≡ read r n;
     }
 
--- data path records as they are before mending: what is written of each is what it is mended to
+-- data path records as they are before mending, within their widths and with a right channel: what is written of each is what it is mended to
 abbrev pub unmendedDataPaths : Format
 unmendedDataPaths =
     record {
