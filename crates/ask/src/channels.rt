@@ -7,11 +7,11 @@ use crate::numbers::none;
 use crate::numbers::one;
 use crate::numbers::refused;
 use crate::numbers::sized;
-use channel_sequence::Channel;
-use channel_sequence::ChannelEncoding;
-use channel_sequence::Corrected;
-use channel_sequence::FoundEncoding;
-use channel_sequence::LegacyFlags;
+use channel::Channel;
+use channel::ChannelEncoding;
+use channel::Corrected;
+use channel::FoundEncoding;
+use channel::LegacyFlags;
 
 pub(crate) fn record_of(v: &[u64; 32]) -> Channel {
     Channel {

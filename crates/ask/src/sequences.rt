@@ -17,10 +17,10 @@ use crate::output::named_hex;
 use crate::output::text;
 use crate::words::first;
 use channel_sequence::ChannelSequence;
-use channel_sequence::ChannelSequenceTLV;
 use channel_sequence::Consistency;
 use channel_sequence::Entry;
 use channel_sequence::Fixed;
+use channel_sequence_tlv::ChannelSequenceTLV;
 use wire::Size;
 
 fn sequence_of(encoding: u8, given: &[u8]) -> ChannelSequence {

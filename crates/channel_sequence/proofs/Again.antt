@@ -7,14 +7,14 @@ use lib.ListN.{length, replicate}
 use lib.Seq.{take-at}
 use Rattle.wire.specs.Reading.{read}
 use Rattle.wire.specs.Answer.{answer}
-use Rattle.channel_sequence.specs.declared.channel.ChannelEncoding.{ChannelEncoding}
-use Rattle.channel_sequence.specs.declared.channel.ChannelEncoding.the-variants.{Simple, Legacy, OpClass}
+use Rattle.channel.specs.declared.channel.ChannelEncoding.{ChannelEncoding}
+use Rattle.channel.specs.declared.channel.ChannelEncoding.the-variants.{Simple, Legacy, OpClass}
 use Rattle.channel_sequence.specs.declared.channel_sequence.ChannelSequence.{ChannelSequence}
-use Rattle.channel_sequence.specs.Channels.{entrySize}
+use Rattle.channel.specs.Channels.{entrySize}
 use Rattle.channel_sequence.specs.Sequences.{bytesOf}
 use Rattle.channel_sequence.specs.SequenceReader.{keptBytes, sequence}
 use Rattle.channel_sequence.specs.Rewritten.{byteAgain, eachFrom, rewritten}
-use Rattle.channel_sequence.proofs.Flags.{entries-again}
+use Rattle.channel_sequence.proofs.KeptEntries.{entries-again}
 use Rattle.channel_sequence.proofs.ReadConsistent.{sequence-field, padded-consistent}
 
 each-same : (i : ℕ) (s : List ℕ) → eachFrom (λ i byte. byte) i s ≡ s

@@ -7,15 +7,8 @@ use Rattle.wire.specs.Said.{saidBeside}
 use Rattle.wire.proofs.Once.{beside}
 use Rattle.channel_sequence.specs.declared.channel_sequence.ChannelSequence.{ChannelSequence}
 use Rattle.channel_sequence.specs.declared.channel_sequence.ReadSequence.{ReadSequence}
-use Rattle.channel_sequence.specs.declared.channel_sequence_tlv.ChannelSequenceTLV.{ChannelSequenceTLV}
-use Rattle.channel_sequence.specs.declared.channel_sequence_tlv.ReadChannelSequence.{ReadChannelSequence}
-use Rattle.channel_sequence.specs.Said.{sequenceRead, channelSequenceRead}
+use Rattle.channel_sequence.specs.Said.{sequenceRead}
 
 pub sequence-beside : (m : Reading ChannelSequence) {r : ReadSequence} {answer : Place} → r ≡ sequenceRead m → r .answer ≡ answer
     → m ≡ saidBeside answer (r .sequence)
 sequence-beside = beside sequenceRead (λ r. r .answer) (λ r. r .sequence) saidBeside (elim [ read q next ↦ refl | refused why ↦ refl ])
-
-pub channel-sequence-beside : (m : Reading ChannelSequenceTLV) {r : ReadChannelSequence} {answer : Place} → r ≡ channelSequenceRead m → r .answer ≡ answer
-    → m ≡ saidBeside answer (r .channels)
-channel-sequence-beside =
-    beside channelSequenceRead (λ r. r .answer) (λ r. r .channels) saidBeside (elim [ read c next ↦ refl | refused why ↦ refl ])

@@ -13,10 +13,10 @@ use lib.Seq.{getD-drop, drop-cons, drop-drop, take-suc-set, length-take-le}
 use Rattle.wire.specs.Answer.{Answer, answer, refusal}
 use Rattle.wire.specs.Writing.{Put, lengthOf}
 use Rattle.wire.proofs.Stores.{put-all}
-use Rattle.channel_sequence.specs.declared.channel.ChannelEncoding.{ChannelEncoding}
-use Rattle.channel_sequence.specs.declared.channel.ChannelEncoding.the-variants.{Simple, Legacy, OpClass}
+use Rattle.channel.specs.declared.channel.ChannelEncoding.{ChannelEncoding}
+use Rattle.channel.specs.declared.channel.ChannelEncoding.the-variants.{Simple, Legacy, OpClass}
 use Rattle.channel_sequence.specs.declared.channel_sequence.ChannelSequence.{ChannelSequence}
-use Rattle.channel_sequence.specs.Channels.{encodingOf, entrySize}
+use Rattle.channel.specs.Channels.{encodingOf, entrySize}
 use Rattle.channel_sequence.specs.Hops.{entryChannel}
 use Rattle.channel_sequence.specs.Sequences.{allZero, flagsFit, allFlagsFit, padded, sizeOf, bytesOf, consistentBytes}
 

@@ -1,11 +1,8 @@
 pub mod Entries
-pub mod Flags
+pub mod KeptEntries
 pub mod Once
 pub mod Beside
 pub mod RoundTrip
 pub mod ReadConsistent
-pub mod SequenceTLVs
 pub mod Laid
 pub mod Again
-pub mod ReadSequenceTLVs
-pub mod Edges

@@ -1,26 +1,13 @@
 -- Only one answer meets each statement: what an answer says can be turned back into the answer.
 -- Assumes nothing.
-use Prim.Native.Nat.{ℕ}
 use mathlib.Core.Path.{_≡_, refl}
 use mathlib.Core.Bool.{Bool, cond}
 use Rattle.wire.specs.Answer.{Answer}
 use Rattle.wire.proofs.Once.{only-one, ofAnswer}
-use Rattle.channel_sequence.specs.declared.channel.ChannelEncoding.{ChannelEncoding}
-use Rattle.channel_sequence.specs.declared.channel.FoundEncoding.{FoundEncoding}
-use Rattle.channel_sequence.specs.declared.channel.Corrected.{Corrected}
 use Rattle.channel_sequence.specs.declared.channel_sequence.Consistency.{Consistency}
 use Rattle.channel_sequence.specs.declared.channel_sequence.Entry.{Entry}
 use Rattle.channel_sequence.specs.Hops.{Hop, hop, nothing}
-use Rattle.channel_sequence.specs.Said.{saidEncoding, saidCorrected, saidConsistent, saidEntry}
-
-pub onceEncoding : {m : Answer ChannelEncoding} {a b : FoundEncoding} → saidEncoding a ≡ m → saidEncoding b ≡ m → a ≡ b
-onceEncoding =
-    only-one saidEncoding (ofAnswer FoundEncoding.Known FoundEncoding.Refused)
-    (elim [ FoundEncoding.Known encoding ↦ refl | FoundEncoding.Refused why ↦ refl ])
-
-pub onceCorrected : {m : Answer ℕ} {a b : Corrected} → saidCorrected a ≡ m → saidCorrected b ≡ m → a ≡ b
-onceCorrected =
-    only-one saidCorrected (ofAnswer Corrected.Channel Corrected.Refused) (elim [ Corrected.Channel channel ↦ refl | Corrected.Refused why ↦ refl ])
+use Rattle.channel_sequence.specs.Said.{saidConsistent, saidEntry}
 
 pub onceConsistent : {m : Answer Bool} {a b : Consistency} → saidConsistent a ≡ m → saidConsistent b ≡ m → a ≡ b
 onceConsistent =

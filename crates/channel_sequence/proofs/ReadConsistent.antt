@@ -14,15 +14,15 @@ use Rattle.wire.specs.FromBytes.{ReadFromBytes}
 use Rattle.wire.specs.Answer.{Answer, answer, refusal}
 use Rattle.wire.proofs.Lawful.{never, steps}
 use Rattle.wire.proofs.Places.{field-size}
-use Rattle.channel_sequence.specs.declared.channel.ChannelEncoding.{ChannelEncoding}
-use Rattle.channel_sequence.specs.declared.channel.ChannelEncoding.the-variants.{Simple, Legacy, OpClass}
+use Rattle.channel.specs.declared.channel.ChannelEncoding.{ChannelEncoding}
+use Rattle.channel.specs.declared.channel.ChannelEncoding.the-variants.{Simple, Legacy, OpClass}
 use Rattle.channel_sequence.specs.declared.channel_sequence.ChannelSequence.{ChannelSequence}
-use Rattle.channel_sequence.specs.Channels.{encodingOf, entrySize}
+use Rattle.channel.specs.Channels.{encodingOf, entrySize}
 use Rattle.channel_sequence.specs.Sequences.{consistentBytes, consistent, padded}
 use Rattle.channel_sequence.specs.SequenceReader.{keptEntries, keptBytes, sequence}
 use Rattle.channel_sequence.specs.Widths.{SequenceInWidth}
 use Rattle.channel_sequence.proofs.Entries.{padded-full, size-most, sequence-sized, wire-bytes}
-use Rattle.channel_sequence.proofs.Flags.{length-kept, entries-fit}
+use Rattle.channel_sequence.proofs.KeptEntries.{length-kept, entries-fit}
 use Rattle.channel_sequence.proofs.RoundTrip.{round-trip}
 
 abbrev sequenceIn : ℕ → ChannelEncoding → List ℕ → ChannelSequence

@@ -17,14 +17,14 @@ use Rattle.wire.specs.Writing.{within, lengthOf, afterwards}
 use Rattle.wire.proofs.Lawful.{Lawful, give-lawful, refuse-lawful, bind-lawful, asked-lawful, made-lawful, field-lawful}
 use Rattle.wire.proofs.Tests.{both}
 use Rattle.wire.proofs.ReadsBack.{Back, bind-back, asked-back, made-back, field-back}
-use Rattle.channel_sequence.specs.declared.channel.ChannelEncoding.{ChannelEncoding}
-use Rattle.channel_sequence.specs.declared.channel.ChannelEncoding.the-variants.{Simple, Legacy, OpClass}
+use Rattle.channel.specs.declared.channel.ChannelEncoding.{ChannelEncoding}
+use Rattle.channel.specs.declared.channel.ChannelEncoding.the-variants.{Simple, Legacy, OpClass}
 use Rattle.channel_sequence.specs.declared.channel_sequence.ChannelSequence.{ChannelSequence}
-use Rattle.channel_sequence.specs.Channels.{encodingOf, entrySize}
+use Rattle.channel.specs.Channels.{encodingOf, entrySize}
 use Rattle.channel_sequence.specs.Sequences.{allZero, consistentBytes, consistent, sizeOf, bytesOf, padded}
 use Rattle.channel_sequence.specs.SequenceReader.{keptBytes, sequence}
 use Rattle.channel_sequence.proofs.Entries.{padded-full, size-most}
-use Rattle.channel_sequence.proofs.Flags.{entries-same}
+use Rattle.channel_sequence.proofs.KeptEntries.{entries-same}
 
 all-zero : (s : List ℕ) → allZero s ≡ true → s ≡ replicate (length s) 0
 all-zero [] e = refl

@@ -5,10 +5,10 @@ use mathlib.Core.List.{List}
 use lib.Dec.{leb}
 use lib.ListN.{getD, take, drop}
 use Rattle.wire.specs.Answer.{Answer, answer, _>>=_}
-use Rattle.channel_sequence.specs.declared.channel.Channel.{Channel}
-use Rattle.channel_sequence.specs.declared.channel.ChannelEncoding.{ChannelEncoding}
+use Rattle.channel.specs.declared.channel.Channel.{Channel}
+use Rattle.channel.specs.declared.channel.ChannelEncoding.{ChannelEncoding}
 use Rattle.channel_sequence.specs.declared.channel_sequence.ChannelSequence.{ChannelSequence}
-use Rattle.channel_sequence.specs.Channels.{encodingOf, entrySize}
+use Rattle.channel.specs.Channels.{encodingOf, entrySize}
 
 -- the bytes of entry n, from 0
 abbrev pub entryBytes : ChannelEncoding → ℕ → List ℕ → List ℕ

@@ -1,15 +1,14 @@
--- What of the bytes comes back when a sequence, or its record, is written again: every byte as it stands, but legacy flags keep 0x3F.
+-- What of the bytes comes back when a sequence is written again: every byte as it stands, but legacy flags keep 0x3F.
 use Prim.Native.Nat.{ℕ, suc, _*_, _%_}
 use mathlib.Core.Bool.{cond}
-use mathlib.Core.List.{List, [], _∷_, _++_}
+use mathlib.Core.List.{List, [], _∷_}
 use lib.Bits.{bitAnd}
 use lib.Dec.{eqb}
-use lib.ListN.{getD}
 use Rattle.wire.specs.Reading.{Reader, field, give, _>>=_}
 use Rattle.wire.specs.Answer.{asked}
-use Rattle.channel_sequence.specs.declared.channel.ChannelEncoding.{ChannelEncoding}
-use Rattle.channel_sequence.specs.declared.channel.ChannelEncoding.the-variants.{Simple, Legacy, OpClass}
-use Rattle.channel_sequence.specs.Channels.{encodingOf, entrySize}
+use Rattle.channel.specs.declared.channel.ChannelEncoding.{ChannelEncoding}
+use Rattle.channel.specs.declared.channel.ChannelEncoding.the-variants.{Simple, Legacy, OpClass}
+use Rattle.channel.specs.Channels.{encodingOf, entrySize}
 
 -- the byte at a place, the first at 0: legacy flags stand at the even places
 abbrev pub byteAgain : ChannelEncoding → ℕ → ℕ → ℕ
@@ -27,10 +26,3 @@ rewritten n = do
   encoding ← asked (encodingOf n)
   bytes ← field (16 * entrySize encoding)
   give (eachFrom (byteAgain encoding) 0 bytes)
-
--- the six bytes, of which the second names the encoding, and the entries
-unfoldable pub rewrittenChannelSequence : Reader (List ℕ)
-rewrittenChannelSequence = do
-  head ← field 6
-  entries ← rewritten (getD head 1 0)
-  give (head ++ entries)

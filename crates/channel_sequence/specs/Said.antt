@@ -1,31 +1,16 @@
 -- What each answer of the code says.
-use Prim.Native.Nat.{ℕ}
 use mathlib.Core.Bool.{Bool, true, false}
 use Rattle.wire.specs.declared.read.Place.{Place}
 use Rattle.wire.specs.Reading.{Reading, read, refused}
 use Rattle.wire.specs.Answer.{Answer, answer, refusal}
-use Rattle.channel_sequence.specs.declared.channel.ChannelEncoding.{ChannelEncoding}
-use Rattle.channel_sequence.specs.declared.channel.FoundEncoding.{FoundEncoding}
-use Rattle.channel_sequence.specs.declared.channel.Corrected.{Corrected}
 use Rattle.channel_sequence.specs.declared.channel_sequence.ChannelSequence.{ChannelSequence}
 use Rattle.channel_sequence.specs.declared.channel_sequence.Consistency.{Consistency}
 use Rattle.channel_sequence.specs.declared.channel_sequence.ReadSequence.{ReadSequence}
 use Rattle.channel_sequence.specs.declared.channel_sequence.Fixed.{Fixed}
 use Rattle.channel_sequence.specs.declared.channel_sequence.FixedSequence.{FixedSequence}
 use Rattle.channel_sequence.specs.declared.channel_sequence.Entry.{Entry}
-use Rattle.channel_sequence.specs.declared.channel_sequence_tlv.ChannelSequenceTLV.{ChannelSequenceTLV}
-use Rattle.channel_sequence.specs.declared.channel_sequence_tlv.ReadChannelSequence.{ReadChannelSequence}
 use Rattle.channel_sequence.specs.Sequences.{zeroSequence}
 use Rattle.channel_sequence.specs.Hops.{Hop, hop, nothing}
-use Rattle.channel_sequence.specs.SequenceTLVs.{zeroChannelSequence}
-
-abbrev pub saidEncoding : FoundEncoding → Answer ChannelEncoding
-saidEncoding (FoundEncoding.Known encoding) = answer encoding
-saidEncoding (FoundEncoding.Refused why) = refusal why
-
-abbrev pub saidCorrected : Corrected → Answer ℕ
-saidCorrected (Corrected.Channel channel) = answer channel
-saidCorrected (Corrected.Refused why) = refusal why
 
 abbrev pub saidConsistent : Consistency → Answer Bool
 saidConsistent Consistency.Yes = answer true
@@ -46,7 +31,3 @@ sequenceRead (refused why) = record { answer = Place.Refused why; sequence = zer
 abbrev pub sequenceFixed : Answer ChannelSequence → FixedSequence
 sequenceFixed (answer q) = record { answer = Fixed.Made; sequence = q }
 sequenceFixed (refusal why) = record { answer = Fixed.Refused why; sequence = zeroSequence }
-
-abbrev pub channelSequenceRead : Reading ChannelSequenceTLV → ReadChannelSequence
-channelSequenceRead (read c next) = record { answer = Place.At next; channels = c }
-channelSequenceRead (refused why) = record { answer = Place.Refused why; channels = zeroChannelSequence }

@@ -3,10 +3,10 @@ use Prim.Native.Nat.{ℕ, _*_}
 use mathlib.Core.List.{List, [], _∷_}
 use Rattle.wire.specs.Reading.{Reader, field, give, _>>=_}
 use Rattle.wire.specs.Answer.{asked}
-use Rattle.channel_sequence.specs.declared.channel.ChannelEncoding.{ChannelEncoding}
-use Rattle.channel_sequence.specs.declared.channel.ChannelEncoding.the-variants.{Simple, Legacy, OpClass}
+use Rattle.channel.specs.declared.channel.ChannelEncoding.{ChannelEncoding}
+use Rattle.channel.specs.declared.channel.ChannelEncoding.the-variants.{Simple, Legacy, OpClass}
 use Rattle.channel_sequence.specs.declared.channel_sequence.ChannelSequence.{ChannelSequence}
-use Rattle.channel_sequence.specs.Channels.{encodingOf, entrySize, keptFlags}
+use Rattle.channel.specs.Channels.{encodingOf, entrySize, keptFlags}
 use Rattle.channel_sequence.specs.Sequences.{padded}
 
 -- a run of flags, channel, flags, channel and so on, without the dropped bits of the flags

@@ -6,11 +6,11 @@ use lib.Dec.{eqb, leb}
 use lib.ListN.{length, take, drop, replicate}
 use Rattle.wire.specs.declared.refusal.Refusal.the-variants.{Inconsistent}
 use Rattle.wire.specs.Answer.{Answer, answer, require, _>>=_, _>>_}
-use Rattle.channel_sequence.specs.declared.channel.Channel.{Channel}
-use Rattle.channel_sequence.specs.declared.channel.ChannelEncoding.{ChannelEncoding}
-use Rattle.channel_sequence.specs.declared.channel.ChannelEncoding.the-variants.{Simple, Legacy, OpClass}
+use Rattle.channel.specs.declared.channel.Channel.{Channel}
+use Rattle.channel.specs.declared.channel.ChannelEncoding.{ChannelEncoding}
+use Rattle.channel.specs.declared.channel.ChannelEncoding.the-variants.{Simple, Legacy, OpClass}
 use Rattle.channel_sequence.specs.declared.channel_sequence.ChannelSequence.{ChannelSequence}
-use Rattle.channel_sequence.specs.Channels.{encodingOf, entrySize}
+use Rattle.channel.specs.Channels.{encodingOf, entrySize}
 
 abbrev pub zeroSequence : ChannelSequence
 zeroSequence = record { encoding = 0; bytes = replicate 32 0 }

@@ -10,13 +10,13 @@ use Rattle.wire.specs.Reading.{Reading, read}
 use Rattle.wire.specs.Answer.{Answer, answer, refusal}
 use Rattle.wire.proofs.Lawful.{never}
 use Rattle.wire.proofs.Octets.{octets-little}
-use Rattle.channel_sequence.specs.declared.channel.ChannelEncoding.{ChannelEncoding}
-use Rattle.channel_sequence.specs.declared.channel.ChannelEncoding.the-variants.{Simple, Legacy, OpClass}
+use Rattle.channel.specs.declared.channel.ChannelEncoding.{ChannelEncoding}
+use Rattle.channel.specs.declared.channel.ChannelEncoding.the-variants.{Simple, Legacy, OpClass}
 use Rattle.channel_sequence.specs.declared.channel_sequence.ChannelSequence.{ChannelSequence}
-use Rattle.channel_sequence.specs.Channels.{encodingOf}
+use Rattle.channel.specs.Channels.{encodingOf}
 use Rattle.channel_sequence.specs.Sequences.{zeroSequence}
 use Rattle.channel_sequence.specs.SequenceReader.{sequence}
-use Rattle.channel_sequence.specs.SequenceTLVReader.{channelSequence}
+use Rattle.channel_sequence_tlv.specs.SequenceTLVReader.{channelSequence}
 use Rattle.data_path_words.specs.Words.{wordOf}
 use Rattle.data_path_fields.specs.declared.fields.CountryCode.{CountryCode}
 use Rattle.data_path_fields.specs.declared.fields.OptionalChannel.{OptionalChannel}

@@ -9,8 +9,8 @@ use lib.Dec.{eqb}
 use borrow.Author.Tests.{ne-eqb}
 use Rattle.wire.specs.Reading.{Reading, Reader, read, refused}
 use Rattle.wire.proofs.Lawful.{Lawful, grown}
-use Rattle.channel_sequence.specs.SequenceTLVReader.{channelSequence}
-use Rattle.channel_sequence.proofs.SequenceTLVs.{channel-sequence-lawful}
+use Rattle.channel_sequence_tlv.specs.SequenceTLVReader.{channelSequence}
+use Rattle.channel_sequence_tlv.proofs.SequenceTLVs.{channel-sequence-lawful}
 use Rattle.data_path_state.specs.DataPath.{dataPath}
 use Rattle.data_path_state.proofs.Laid.{data-path-laid}
 use Rattle.synchronization_parameters.specs.SynchronizationReader.{synchronization}

@@ -7,12 +7,14 @@ use Rattle.wire.specs.Said.{saidU8, saidU16, saidU32, saidAddress, saidPlace, s
 use Rattle.wire.proofs.Lawful.{field-lawful, number-lawful, address-lawful, short-exactly}
 use Rattle.wire.proofs.Once.{onceU8, onceU16, onceU32, onceAddress, oncePlace, onceSize}
 use Rattle.text.proofs.Once.{onceDecimal, oncePutSaid, onceSame}
-use Rattle.channel_sequence.specs.declared.channel.ChannelEncoding.the-variants.{Simple}
+use Rattle.channel.specs.declared.channel.ChannelEncoding.the-variants.{Simple}
 use Rattle.channel_sequence.specs.Hops.{hop, zeroChannel}
-use Rattle.channel_sequence.specs.Said.{saidEncoding, saidCorrected, saidConsistent, saidEntry}
+use Rattle.channel.specs.Said.{saidEncoding, saidCorrected}
+use Rattle.channel_sequence.specs.Said.{saidConsistent, saidEntry}
 use Rattle.channel_sequence.proofs.RoundTrip.{sequence-lawful}
-use Rattle.channel_sequence.proofs.SequenceTLVs.{channel-sequence-lawful, head-short}
-use Rattle.channel_sequence.proofs.Once.{onceEncoding, onceCorrected, onceConsistent, onceEntry}
+use Rattle.channel_sequence_tlv.proofs.SequenceTLVs.{channel-sequence-lawful, head-short}
+use Rattle.channel.proofs.Once.{onceEncoding, onceCorrected}
+use Rattle.channel_sequence.proofs.Once.{onceConsistent, onceEntry}
 use Rattle.data_path_fields.specs.Said.{saidHead, saidBody}
 use Rattle.data_path_fields.specs.Outcomes.{zeroHead, zeroBody}
 use Rattle.data_path_fields.proofs.Once.{onceHead, onceBody}

@@ -1,11 +1,11 @@
 -- What was written of a consistent record is read back, what was read is written again, and a caller who goes on to the end is given all there is: each crate's own laws say so.
 -- Assumes nothing.
 use mathlib.Core.Path.{refl, sym}
-use Rattle.channel_sequence.proofs.Flags.{kept-mask}
+use Rattle.channel.proofs.Flags.{kept-mask}
 use Rattle.channel_sequence.proofs.ReadConsistent as Q
 use Rattle.channel_sequence.proofs.Again as Q′
-use Rattle.channel_sequence.proofs.ReadSequenceTLVs as C
-use Rattle.channel_sequence.proofs.SequenceTLVs as C′
+use Rattle.channel_sequence_tlv.proofs.ReadSequenceTLVs as C
+use Rattle.channel_sequence_tlv.proofs.SequenceTLVs as C′
 use Rattle.data_path_words.proofs.OneBit.{has-bit}
 use Rattle.data_path_words.proofs.MadeUp.{flags-made-up, extended-made-up, channels-made-up, options-made-up}
 use Rattle.data_path_state.proofs.Sizes.{size-range}

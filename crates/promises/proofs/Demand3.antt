@@ -6,7 +6,8 @@ use Rattle.promises.specs.Later.{insert, grow}
 use Rattle.promises.proofs.LaterFrames.{whole-written, changed, items-after, received-after}
 use Rattle.wire.specs.Reading.{Reader}
 use Rattle.wire.proofs.Laid.{Laid, laid-size, cut-at}
-use Rattle.channel_sequence.proofs.Laid.{sequence-laid, channel-sequence-laid}
+use Rattle.channel_sequence.proofs.Laid.{sequence-laid}
+use Rattle.channel_sequence_tlv.proofs.Laid.{channel-sequence-laid}
 use Rattle.data_path_state.proofs.Laid.{data-path-laid}
 use Rattle.synchronization_parameters.proofs.Laid.{synchronization-laid}
 use Rattle.action_frame.proofs.Laid.{header-laid}

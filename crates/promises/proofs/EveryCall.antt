@@ -18,13 +18,15 @@ use Rattle.text.specs.Text.{decimal, hex}
 use Rattle.text.specs.Words.{says, decimalOf, hexOf}
 use Rattle.text.specs.Said.{saidDecimal}
 use Rattle.text.specs.Into.{PutSaid, TellsSame}
-use Rattle.channel_sequence.specs.Channels.{encodingOf, entrySize, sizeOfEncoding, keptFlags, supportChannel, channelBandwidth, band, corrected}
+use Rattle.channel.specs.Channels.{encodingOf, entrySize, sizeOfEncoding, keptFlags, supportChannel, channelBandwidth, band, corrected}
 use Rattle.channel_sequence.specs.Sequences as Q
 use Rattle.channel_sequence.specs.SequenceReader.{sequence}
 use Rattle.channel_sequence.specs.Hops.{hopAt}
-use Rattle.channel_sequence.specs.SequenceTLVs as C
-use Rattle.channel_sequence.specs.SequenceTLVReader.{channelSequence}
-use Rattle.channel_sequence.specs.Said.{saidEncoding, saidCorrected, saidConsistent, saidEntry, sequenceRead, sequenceFixed, channelSequenceRead}
+use Rattle.channel_sequence_tlv.specs.SequenceTLVs as C
+use Rattle.channel_sequence_tlv.specs.SequenceTLVReader.{channelSequence}
+use Rattle.channel.specs.Said.{saidEncoding, saidCorrected}
+use Rattle.channel_sequence.specs.Said.{saidConsistent, saidEntry, sequenceRead, sequenceFixed}
+use Rattle.channel_sequence_tlv.specs.Said.{channelSequenceRead}
 use Rattle.data_path_words.specs.Words.{hasAny, extendedKept, optionsKept, channelOf, wordOf}
 use Rattle.data_path_fields.specs.Fields.{head, body}
 use Rattle.data_path_fields.specs.Said.{saidHead, saidBody}
@@ -52,11 +54,11 @@ use Rattle.report.specs.Shown.{Shows}
 use Rattle.wire.proofs as wire
 use Rattle.wire.proofs.refusal.Refusal as refusals
 use Rattle.text.proofs as text
-use Rattle.channel_sequence.proofs.channel.ChannelEncoding as encodings
-use Rattle.channel_sequence.proofs.channel.LegacyFlags as flags
-use Rattle.channel_sequence.proofs.channel.Channel as channels
+use Rattle.channel.proofs.channel.ChannelEncoding as encodings
+use Rattle.channel.proofs.channel.LegacyFlags as flags
+use Rattle.channel.proofs.channel.Channel as channels
 use Rattle.channel_sequence.proofs.channel_sequence.ChannelSequence as sequences
-use Rattle.channel_sequence.proofs.channel_sequence_tlv.ChannelSequenceTLV as channel-sequences
+use Rattle.channel_sequence_tlv.proofs.channel_sequence_tlv.ChannelSequenceTLV as channel-sequences
 use Rattle.data_path_words.proofs as bits
 use Rattle.data_path_fields.proofs as fields
 use Rattle.data_path_state.proofs.data_path_state_tlv.DataPathStateTLV as data-paths

@@ -5,8 +5,8 @@ use native.Mathlib.Omega.{arith}
 use mathlib.Core.Path.{_≡_, refl}
 use mathlib.Core.List.{List, [], _∷_, _++_}
 use lib.ListN.{getD, replicate}
-use Rattle.channel_sequence.specs.Channels.{encodingOf}
-use Rattle.channel_sequence.specs.SequenceTLVReader.{channelSequence}
+use Rattle.channel.specs.Channels.{encodingOf}
+use Rattle.channel_sequence_tlv.specs.SequenceTLVReader.{channelSequence}
 use Rattle.tlv_items.specs.Items.{stepAt}
 use Rattle.tlv_items.specs.Walk.{walkFrom}
 use Rattle.action_frame.specs.Frames.{tailOf}

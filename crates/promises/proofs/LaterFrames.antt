@@ -8,7 +8,7 @@ use lib.ListN.{length, take, length-append, take-append-drop}
 use lib.Seq.{length-take-le, take-at, drop-at}
 use Rattle.wire.specs.Reading.{Reader}
 use Rattle.wire.proofs.Lawful.{SameUpTo}
-use Rattle.channel_sequence.specs.SequenceTLVReader.{channelSequence}
+use Rattle.channel_sequence_tlv.specs.SequenceTLVReader.{channelSequence}
 use Rattle.data_path_state.specs.DataPath.{dataPath}
 use Rattle.synchronization_parameters.specs.SynchronizationReader.{synchronization}
 use Rattle.tlv_items.specs.Walk.{whole, walk}

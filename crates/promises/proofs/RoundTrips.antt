@@ -13,7 +13,7 @@ use Rattle.wire.specs.Reading.{Reader, read}
 use Rattle.wire.specs.Answer.{answer}
 use Rattle.wire.proofs.ReadsBack.{Back}
 use Rattle.channel_sequence.proofs.RoundTrip as Q
-use Rattle.channel_sequence.proofs.SequenceTLVs as C
+use Rattle.channel_sequence_tlv.proofs.SequenceTLVs as C
 use Rattle.data_path_state.specs.Bytes.{recordBytes}
 use Rattle.data_path_state.proofs.Sizes.{length-record}
 use Rattle.data_path_state.proofs.RoundTrip as D

@@ -1,8 +1,8 @@
 -- Every row holds: the definitions compute each answer.
 -- Assumes nothing.
 use mathlib.Core.Path.{refl}
-use Rattle.channel_sequence.specs.Channels.{encodingOf}
-use Rattle.channel_sequence.specs.SequenceTLVReader.{channelSequence}
+use Rattle.channel.specs.Channels.{encodingOf}
+use Rattle.channel_sequence_tlv.specs.SequenceTLVReader.{channelSequence}
 use Rattle.data_path_state.specs.Consistent.{consistent}
 use Rattle.data_path_state.specs.Bytes.{recordBytes}
 use Rattle.tlv_items.specs.Items.{stepAt}

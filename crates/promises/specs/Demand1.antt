@@ -21,15 +21,19 @@ use Rattle.text.specs.declared.hex.HexBytes.{HexBytes}
 use Rattle.text.specs.Words.{Said}
 use Rattle.text.specs.Said.{saidDecimal}
 use Rattle.text.specs.Into.{PutSaid, TellsSame}
-use Rattle.channel_sequence.specs.declared.channel.ChannelEncoding.the-variants.{Simple}
+use Rattle.channel.specs.declared.channel.ChannelEncoding.the-variants.{Simple}
 use Rattle.channel_sequence.specs.Sequences.{zeroSequence}
 use Rattle.channel_sequence.specs.SequenceReader.{sequence}
 use Rattle.channel_sequence.specs.Hops.{hop, zeroChannel}
-use Rattle.channel_sequence.specs.SequenceTLVs.{zeroChannelSequence}
-use Rattle.channel_sequence.specs.SequenceTLVReader.{channelSequence}
-use Rattle.channel_sequence.specs.FieldWidths.{headWidths}
-use Rattle.channel_sequence.specs.Said.{saidEncoding, saidCorrected, saidConsistent, saidEntry, sequenceRead, sequenceFixed, channelSequenceRead}
-use Rattle.channel_sequence.specs.Outcomes.{resultEncoding, resultCorrected, resultConsistent, resultEntry, outcomeSequence, resultFixed, outcomeChannelSequence}
+use Rattle.channel_sequence_tlv.specs.SequenceTLVs.{zeroChannelSequence}
+use Rattle.channel_sequence_tlv.specs.SequenceTLVReader.{channelSequence}
+use Rattle.channel_sequence_tlv.specs.FieldWidths.{headWidths}
+use Rattle.channel.specs.Said.{saidEncoding, saidCorrected}
+use Rattle.channel_sequence.specs.Said.{saidConsistent, saidEntry, sequenceRead, sequenceFixed}
+use Rattle.channel_sequence_tlv.specs.Said.{channelSequenceRead}
+use Rattle.channel.specs.Outcomes.{resultEncoding, resultCorrected}
+use Rattle.channel_sequence.specs.Outcomes.{resultConsistent, resultEntry, outcomeSequence, resultFixed}
+use Rattle.channel_sequence_tlv.specs.Outcomes.{outcomeChannelSequence}
 use Rattle.data_path_fields.specs.Fields.{head, body}
 use Rattle.data_path_fields.specs.Said.{saidHead, saidBody}
 use Rattle.data_path_fields.specs.Outcomes.{zeroHead, zeroBody, outcomeHead, outcomeBody}

@@ -13,14 +13,16 @@ use Rattle.wire.specs.Answer.{answer}
 use Rattle.wire.specs.Numbers.{AllInWidth, bit}
 use Rattle.wire.specs.Words.{wordBy}
 use Rattle.channel_sequence.specs.declared.channel_sequence.ChannelSequence.{ChannelSequence}
-use Rattle.channel_sequence.specs.Channels.{keptFlags}
+use Rattle.channel.specs.Channels.{keptFlags}
 use Rattle.channel_sequence.specs.Sequences as Q
 use Rattle.channel_sequence.specs.SequenceReader.{sequence}
-use Rattle.channel_sequence.specs.declared.channel_sequence_tlv.ChannelSequenceTLV.{ChannelSequenceTLV}
-use Rattle.channel_sequence.specs.SequenceTLVs as C
-use Rattle.channel_sequence.specs.SequenceTLVReader.{channelSequence}
-use Rattle.channel_sequence.specs.Widths.{SequenceInWidth, ChannelSequenceInWidth}
+use Rattle.channel_sequence_tlv.specs.declared.channel_sequence_tlv.ChannelSequenceTLV.{ChannelSequenceTLV}
+use Rattle.channel_sequence_tlv.specs.SequenceTLVs as C
+use Rattle.channel_sequence_tlv.specs.SequenceTLVReader.{channelSequence}
+use Rattle.channel_sequence.specs.Widths.{SequenceInWidth}
+use Rattle.channel_sequence_tlv.specs.Widths.{ChannelSequenceInWidth}
 use Rattle.channel_sequence.specs.Rewritten as Q′
+use Rattle.channel_sequence_tlv.specs.Rewritten.{rewrittenChannelSequence}
 use Rattle.data_path_words.specs.Words.{hasAny, extendedKept, optionsKept}
 use Rattle.data_path_words.specs.Names.{MakeUp, flagNames, extendedNames, channelNames, optionNames}
 use Rattle.data_path_state.specs.declared.data_path_state_tlv.DataPathStateTLV.{DataPathStateTLV}
@@ -100,7 +102,7 @@ pub record Demand2 : Type 1 where
   pub sequences-again : (encoding : ℕ) (s : List ℕ) (at : ℕ) {next : ℕ} {q : ChannelSequence} → sequence encoding s at ≡ read q next
       → (bytes : List ℕ) × (Q.bytesOf q ≡ answer bytes) × (Q′.rewritten encoding s at ≡ read bytes next)
   pub channel-sequences-again : (s : List ℕ) → Bytes s → (at : ℕ) {next : ℕ} {c : ChannelSequenceTLV} → channelSequence s at ≡ read c next
-      → (bytes : List ℕ) × (C.bytesOf c ≡ answer bytes) × (Q′.rewrittenChannelSequence s at ≡ read bytes next)
+      → (bytes : List ℕ) × (C.bytesOf c ≡ answer bytes) × (rewrittenChannelSequence s at ≡ read bytes next)
   pub data-paths-again : (s : List ℕ) → Bytes s → (at : ℕ) {next : ℕ} {r : DataPathStateTLV} → dataPath s at ≡ read r next
       → D.rewritten s at ≡ read (recordBytes r) next
   pub synchronizations-again : (s : List ℕ) → Bytes s → {p : SynchronizationParametersTLV} {size : ℕ} → synchronization s 0 ≡ read p size

@@ -6,8 +6,9 @@ use lib.ListN.{length, take}
 use Rattle.wire.specs.Reading.{Reader, read}
 use Rattle.wire.specs.ShortFields.{total, CutAt}
 use Rattle.channel_sequence.specs.SequenceReader.{sequence}
-use Rattle.channel_sequence.specs.SequenceTLVReader.{channelSequence}
-use Rattle.channel_sequence.specs.FieldWidths as C
+use Rattle.channel_sequence_tlv.specs.SequenceTLVReader.{channelSequence}
+use Rattle.channel_sequence.specs.FieldWidths.{sequenceWidths}
+use Rattle.channel_sequence_tlv.specs.FieldWidths as C
 use Rattle.data_path_state.specs.DataPath.{dataPath}
 use Rattle.data_path_state.specs.FieldWidths as D
 use Rattle.tlv_items.specs.Walk.{whole, walk}
@@ -37,7 +38,7 @@ pub record Demand3 : Type 0 where
   pub data-path-cut : CutIsShort dataPath D.fieldWidths
   pub channel-sequence-cut : CutIsShort channelSequence C.fieldWidths
   pub header-cut : CutIsShort header (λ f. F.fieldWidths)
-  pub sequence-cut : (encoding : ℕ) → CutIsShort (sequence encoding) C.sequenceWidths
+  pub sequence-cut : (encoding : ℕ) → CutIsShort (sequence encoding) sequenceWidths
   -- what `Later` stands for: the frame is the bytes of its header and then those of its items,
   pub written : (frame : List ℕ) → WholeFrame frame → frame ≡ take 12 frame ++ tailWith (sentIn (tailOf frame))
   -- an item that we do not read can be put in before the first item, behind the last one, and between any two,

@@ -11,9 +11,9 @@ use Rattle.wire.specs.Writing.{Wrote}
 use Rattle.channel_sequence.specs.declared.channel_sequence.ChannelSequence.{ChannelSequence}
 use Rattle.channel_sequence.specs.Sequences as Q
 use Rattle.channel_sequence.specs.SequenceReader.{sequence}
-use Rattle.channel_sequence.specs.declared.channel_sequence_tlv.ChannelSequenceTLV.{ChannelSequenceTLV}
-use Rattle.channel_sequence.specs.SequenceTLVs as C
-use Rattle.channel_sequence.specs.SequenceTLVReader.{channelSequence}
+use Rattle.channel_sequence_tlv.specs.declared.channel_sequence_tlv.ChannelSequenceTLV.{ChannelSequenceTLV}
+use Rattle.channel_sequence_tlv.specs.SequenceTLVs as C
+use Rattle.channel_sequence_tlv.specs.SequenceTLVReader.{channelSequence}
 use Rattle.data_path_state.specs.declared.data_path_state_tlv.DataPathStateTLV.{DataPathStateTLV}
 use Rattle.data_path_state.specs.DataPath.{dataPath}
 use Rattle.data_path_state.specs.Ranges.{Ranges}

@@ -7,7 +7,7 @@ use lib.ListN.{replicate}
 use Rattle.wire.specs.Reading.{Reading, read, refused}
 use Rattle.wire.specs.Answer.{Answer, answer, refusal}
 use Rattle.wire.specs.Outcomes.{Outcome, outcome, Result, result}
-use Rattle.channel_sequence.specs.Channels.{corrected}
+use Rattle.channel.specs.Channels.{corrected}
 use Rattle.data_path_words.specs.declared.misc.DataPathChannel.{DataPathChannel}
 use Rattle.data_path_fields.specs.declared.fields.CountryCode.{CountryCode}
 use Rattle.data_path_fields.specs.declared.fields.OptionalChannel.{OptionalChannel}

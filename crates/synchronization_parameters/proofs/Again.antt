@@ -13,11 +13,11 @@ use Rattle.wire.specs.Addresses.{address}
 use Rattle.wire.proofs.Bytes.{opened}
 use Rattle.wire.proofs.Gives.{Gives, gives-any, gives-give, gives-bind}
 use Rattle.wire.proofs.Octets.{byte, low, high, Octets, gives-number, gives-pair}
-use Rattle.channel_sequence.specs.declared.channel_sequence_tlv.ChannelSequenceTLV.{ChannelSequenceTLV}
-use Rattle.channel_sequence.specs.SequenceTLVs.{numbers as numbersOf}
-use Rattle.channel_sequence.specs.SequenceTLVReader.{channelSequence}
-use Rattle.channel_sequence.specs.Rewritten.{rewrittenChannelSequence}
-use Rattle.channel_sequence.proofs.ReadSequenceTLVs as C
+use Rattle.channel_sequence_tlv.specs.declared.channel_sequence_tlv.ChannelSequenceTLV.{ChannelSequenceTLV}
+use Rattle.channel_sequence_tlv.specs.SequenceTLVs.{numbers as numbersOf}
+use Rattle.channel_sequence_tlv.specs.SequenceTLVReader.{channelSequence}
+use Rattle.channel_sequence_tlv.specs.Rewritten.{rewrittenChannelSequence}
+use Rattle.channel_sequence_tlv.proofs.ReadSequenceTLVs as C
 use Rattle.synchronization_parameters.specs.declared.synchronization_parameters_tlv.SynchronizationParametersTLV.{SynchronizationParametersTLV}
 use Rattle.synchronization_parameters.specs.SynchronizationReader.{synchronization}
 use Rattle.synchronization_parameters.specs.SynchronizationBytes.{consistent, fixedBytes, bytesOf, numbers}

@@ -8,7 +8,7 @@ use Rattle.wire.specs.Answer.{answer}
 use Rattle.wire.specs.Addresses.{addressBytes}
 use Rattle.wire.proofs.Octets.{Octets, octets-append, octets-little}
 use Rattle.wire.proofs.ReadsBack.{from-bytes}
-use Rattle.channel_sequence.proofs.SequenceTLVs as C
+use Rattle.channel_sequence_tlv.proofs.SequenceTLVs as C
 use Rattle.synchronization_parameters.specs.declared.synchronization_parameters_tlv.SynchronizationParametersTLV.{SynchronizationParametersTLV}
 use Rattle.synchronization_parameters.specs.SynchronizationReader.{synchronization}
 use Rattle.synchronization_parameters.specs.SynchronizationBytes.{consistent, fixedBytes}

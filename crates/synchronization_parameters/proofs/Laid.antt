@@ -4,7 +4,7 @@ use mathlib.Core.Path.{refl}
 use Rattle.wire.specs.Numbers.{pairOf}
 use Rattle.wire.specs.Addresses.{addressOf}
 use Rattle.wire.proofs.Laid.{Laid, laid-last, laid-field-on, laid-number}
-use Rattle.channel_sequence.proofs.Laid.{channel-sequence-laid}
+use Rattle.channel_sequence_tlv.proofs.Laid.{channel-sequence-laid}
 use Rattle.synchronization_parameters.specs.SynchronizationReader.{synchronization}
 use Rattle.synchronization_parameters.specs.FieldWidths.{fieldWidths}
 

@@ -8,8 +8,8 @@ use lib.ListN.{length, take, length-append}
 use Rattle.wire.specs.Answer.{answer}
 use Rattle.wire.specs.Numbers.{AllInWidth, one}
 use Rattle.wire.proofs.ReadsBack.{Back, made-back, number-on, pair-on, address-on}
-use Rattle.channel_sequence.specs.SequenceTLVReader.{channelSequence}
-use Rattle.channel_sequence.proofs.SequenceTLVs as C
+use Rattle.channel_sequence_tlv.specs.SequenceTLVReader.{channelSequence}
+use Rattle.channel_sequence_tlv.proofs.SequenceTLVs as C
 use Rattle.synchronization_parameters.specs.declared.synchronization_parameters_tlv.SynchronizationParametersTLV.{SynchronizationParametersTLV}
 use Rattle.synchronization_parameters.specs.SynchronizationReader.{synchronization}
 use Rattle.synchronization_parameters.specs.SynchronizationBytes.{consistent, sizeOf, fixedBytes, bytesOf, numbers}

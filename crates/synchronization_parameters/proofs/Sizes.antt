@@ -9,8 +9,8 @@ use lib.ListN.{length, take}
 use Rattle.wire.specs.Answer.{answer}
 use Rattle.wire.specs.Writing.{lengthOf}
 use Rattle.wire.proofs.Stores.{size-behind, length-behind}
-use Rattle.channel_sequence.specs.SequenceTLVs as C
-use Rattle.channel_sequence.proofs.SequenceTLVs as C′
+use Rattle.channel_sequence_tlv.specs.SequenceTLVs as C
+use Rattle.channel_sequence_tlv.proofs.SequenceTLVs as C′
 use Rattle.synchronization_parameters.specs.declared.synchronization_parameters_tlv.SynchronizationParametersTLV.{SynchronizationParametersTLV}
 use Rattle.synchronization_parameters.specs.SynchronizationBytes.{sizeOf, fixedBytes, bytesOf}
 

@@ -20,10 +20,10 @@ use Rattle.wire.proofs.Bytes.{from, opened}
 use Rattle.wire.proofs.Lawful.{Lawful, never, steps, give-lawful}
 use Rattle.wire.proofs.Fixed.{past-short, made-field, Begins, begins-bind, begins-field, begins-number}
 use Rattle.wire.proofs.Laid.{short-in-front}
-use Rattle.channel_sequence.specs.declared.channel_sequence_tlv.ChannelSequenceTLV.{ChannelSequenceTLV}
-use Rattle.channel_sequence.specs.SequenceTLVReader.{channelSequence}
-use Rattle.channel_sequence.specs.FieldWidths.{headWidths}
-use Rattle.channel_sequence.proofs.SequenceTLVs.{channel-sequence-begins}
+use Rattle.channel_sequence_tlv.specs.declared.channel_sequence_tlv.ChannelSequenceTLV.{ChannelSequenceTLV}
+use Rattle.channel_sequence_tlv.specs.SequenceTLVReader.{channelSequence}
+use Rattle.channel_sequence_tlv.specs.FieldWidths.{headWidths}
+use Rattle.channel_sequence_tlv.proofs.SequenceTLVs.{channel-sequence-begins}
 use Rattle.synchronization_parameters.specs.declared.synchronization_parameters_tlv.SynchronizationParametersTLV.{SynchronizationParametersTLV}
 use Rattle.synchronization_parameters.specs.SynchronizationReader.{synchronization}
 use Rattle.synchronization_parameters.specs.FieldWidths.{fixedWidths}

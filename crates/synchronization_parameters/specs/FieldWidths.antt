@@ -1,7 +1,7 @@
 -- The fields of a value, by their widths in order: where one that is cut is short goes by these.
 use Prim.Native.Nat.{ℕ}
 use mathlib.Core.List.{List, [], _∷_, _++_}
-use Rattle.channel_sequence.specs.FieldWidths as C
+use Rattle.channel_sequence_tlv.specs.FieldWidths as C
 use Rattle.synchronization_parameters.specs.declared.synchronization_parameters_tlv.SynchronizationParametersTLV.{SynchronizationParametersTLV}
 
 -- in front of the sequence; the reserved byte belongs to the mode before it, and the two are a field of two bytes

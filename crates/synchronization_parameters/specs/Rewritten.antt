@@ -2,7 +2,7 @@
 use Prim.Native.Nat.{ℕ}
 use mathlib.Core.List.{List, _++_}
 use Rattle.wire.specs.Reading.{Reader, field, give, _>>=_}
-use Rattle.channel_sequence.specs.Rewritten.{rewrittenChannelSequence}
+use Rattle.channel_sequence_tlv.specs.Rewritten.{rewrittenChannelSequence}
 
 abbrev pub rewritten : Reader (List ℕ)
 rewritten = do

@@ -5,7 +5,7 @@ use mathlib.Core.List.{List, _∷_, _++_}
 use Rattle.wire.specs.Answer.{Answer, answer, _>>=_}
 use Rattle.wire.specs.Numbers.{littleBytes, pairBytes}
 use Rattle.wire.specs.Addresses.{addressBytes}
-use Rattle.channel_sequence.specs.SequenceTLVs as C
+use Rattle.channel_sequence_tlv.specs.SequenceTLVs as C
 use Rattle.synchronization_parameters.specs.declared.synchronization_parameters_tlv.SynchronizationParametersTLV.{SynchronizationParametersTLV}
 
 abbrev pub consistent : SynchronizationParametersTLV → Answer Bool

@@ -2,8 +2,8 @@
 use Rattle.wire.specs.Reading.{Reader, give, _>>=_}
 use Rattle.wire.specs.Numbers.{number, withReserved}
 use Rattle.wire.specs.Addresses.{address, zeroAddress}
-use Rattle.channel_sequence.specs.SequenceTLVs.{zeroChannelSequence}
-use Rattle.channel_sequence.specs.SequenceTLVReader.{channelSequence}
+use Rattle.channel_sequence_tlv.specs.SequenceTLVs.{zeroChannelSequence}
+use Rattle.channel_sequence_tlv.specs.SequenceTLVReader.{channelSequence}
 use Rattle.synchronization_parameters.specs.declared.synchronization_parameters_tlv.SynchronizationParametersTLV.{SynchronizationParametersTLV}
 
 -- 33 bytes, among them the mode with its reserved byte, and the sequence; what follows them is not looked at

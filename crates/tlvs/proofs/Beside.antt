@@ -7,11 +7,11 @@ use Rattle.wire.specs.declared.refusal.Refusal.{Refusal}
 use Rattle.wire.specs.declared.read.Place.{Place}
 use Rattle.wire.specs.Reading.{Reading, Reader}
 use Rattle.wire.specs.Said.{saidBeside}
-use Rattle.channel_sequence.specs.declared.channel_sequence_tlv.ChannelSequenceTLV.{ChannelSequenceTLV}
-use Rattle.channel_sequence.specs.declared.channel_sequence_tlv.ReadChannelSequence.{ReadChannelSequence}
-use Rattle.channel_sequence.specs.SequenceTLVReader.{channelSequence}
-use Rattle.channel_sequence.specs.Said.{channelSequenceRead}
-use Rattle.channel_sequence.proofs.Beside.{channel-sequence-beside}
+use Rattle.channel_sequence_tlv.specs.declared.channel_sequence_tlv.ChannelSequenceTLV.{ChannelSequenceTLV}
+use Rattle.channel_sequence_tlv.specs.declared.channel_sequence_tlv.ReadChannelSequence.{ReadChannelSequence}
+use Rattle.channel_sequence_tlv.specs.SequenceTLVReader.{channelSequence}
+use Rattle.channel_sequence_tlv.specs.Said.{channelSequenceRead}
+use Rattle.channel_sequence_tlv.proofs.Beside.{channel-sequence-beside}
 use Rattle.synchronization_parameters.specs.declared.synchronization_parameters_tlv.SynchronizationParametersTLV.{SynchronizationParametersTLV}
 use Rattle.synchronization_parameters.specs.declared.synchronization_parameters_tlv.ReadSynchronization.{ReadSynchronization}
 use Rattle.synchronization_parameters.specs.SynchronizationReader.{synchronization}

@@ -1,6 +1,6 @@
 -- What each answer of the code says.
-use Rattle.channel_sequence.specs.declared.channel_sequence_tlv.ChannelSequenceTLV.{ChannelSequenceTLV}
-use Rattle.channel_sequence.specs.SequenceTLVs.{zeroChannelSequence}
+use Rattle.channel_sequence_tlv.specs.declared.channel_sequence_tlv.ChannelSequenceTLV.{ChannelSequenceTLV}
+use Rattle.channel_sequence_tlv.specs.SequenceTLVs.{zeroChannelSequence}
 use Rattle.data_path_state.specs.declared.data_path_state_tlv.DataPathStateTLV.{DataPathStateTLV}
 use Rattle.synchronization_parameters.specs.declared.synchronization_parameters_tlv.SynchronizationParametersTLV.{SynchronizationParametersTLV}
 use Rattle.synchronization_parameters.specs.SynchronizationReader.{zeroSynchronization}

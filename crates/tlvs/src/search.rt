@@ -2,7 +2,7 @@ ghost use mathlib.Core.Path.{_≡_};
 ghost use Rattle.tlvs.specs.Search as Search;
 ghost use Rattle.tlvs.specs.Said.{saidFoundDataPath, synchronizationFound, channelSequenceFound};
 use crate::values::value_at;
-use channel_sequence::ChannelSequenceTLV;
+use channel_sequence_tlv::ChannelSequenceTLV;
 use data_path_state::DataPathStateTLV;
 use data_path_state::ReadDataPathState;
 use synchronization_parameters::SynchronizationParametersTLV;

@@ -1,7 +1,7 @@
 -- `held` meets its contract: each arm answers for its encoding.
 -- Assumes nothing.
 use Rattle.channel_sequence.proofs.Entries.{padded-full, size-most}
-use Rattle.channel_sequence.proofs.Flags.{length-kept}
+use Rattle.channel_sequence.proofs.KeptEntries.{length-kept}
 use Rattle.channel_sequence.proofs.channel_sequence.held.Statement.{statement}
 use Rattle.channel_sequence.proofs.channel_sequence.held.Tie as tie
 use Rattle.channel_sequence.specs.SequenceReader.{keptEntries}

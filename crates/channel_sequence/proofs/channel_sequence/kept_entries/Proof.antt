@@ -4,7 +4,7 @@ use Prim.Native.Nat.{_+_, _≤_, _-_, _%_}
 use Rattle.channel_sequence.proofs.Entries.{two-at, entry-step}
 use Rattle.channel_sequence.proofs.channel_sequence.kept_entries.Statement.{statement}
 use Rattle.channel_sequence.proofs.channel_sequence.kept_entries.Tie as tie
-use Rattle.channel_sequence.specs.Channels.{keptFlags}
+use Rattle.channel.specs.Channels.{keptFlags}
 use Rattle.channel_sequence.specs.SequenceReader.{keptEntries}
 use lib.ListN.{length, getD, take, drop, length-set, drop-of-length-le}
 use lib.Seq.{take-all}

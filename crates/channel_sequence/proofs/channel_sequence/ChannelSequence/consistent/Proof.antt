@@ -2,7 +2,7 @@
 -- Assumes nothing.
 use Rattle.channel_sequence.proofs.channel_sequence.ChannelSequence.consistent.Statement.{statement}
 use Rattle.channel_sequence.proofs.channel_sequence.ChannelSequence.consistent.Tie as tie
-use Rattle.channel_sequence.specs.Said.{saidEncoding}
+use Rattle.channel.specs.Said.{saidEncoding}
 use Rattle.wire.proofs.Once.{told}
 use borrow.Author.Needs.{needs}
 

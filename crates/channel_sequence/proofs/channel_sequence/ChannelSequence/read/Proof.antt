@@ -3,8 +3,8 @@
 use Prim.Native.Nat.{_*_}
 use Rattle.channel_sequence.proofs.channel_sequence.ChannelSequence.read.Statement.{statement}
 use Rattle.channel_sequence.proofs.channel_sequence.ChannelSequence.read.Tie as tie
-use Rattle.channel_sequence.specs.Channels.{entrySize}
-use Rattle.channel_sequence.specs.Said.{saidEncoding}
+use Rattle.channel.specs.Channels.{entrySize}
+use Rattle.channel.specs.Said.{saidEncoding}
 use Rattle.wire.proofs.Bytes.{PlacedField, placed, unplaced}
 use Rattle.wire.proofs.Once.{told}
 use Rattle.wire.specs.Reading.{field}

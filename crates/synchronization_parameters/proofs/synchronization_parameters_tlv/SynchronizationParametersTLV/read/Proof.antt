@@ -1,7 +1,7 @@
 -- `SynchronizationParametersTLV::read` meets its contract: where 33 bytes stand, the sequence decides, and a shorter value is refused for the field that does not fit.
 -- Assumes nothing.
-use Rattle.channel_sequence.proofs.Beside.{channel-sequence-beside}
-use Rattle.channel_sequence.specs.SequenceTLVReader.{channelSequence}
+use Rattle.channel_sequence_tlv.proofs.Beside.{channel-sequence-beside}
+use Rattle.channel_sequence_tlv.specs.SequenceTLVReader.{channelSequence}
 use Rattle.synchronization_parameters.proofs.Whole.{all-fields, fixed-short}
 use Rattle.synchronization_parameters.proofs.synchronization_parameters_tlv.SynchronizationParametersTLV.read.Statement.{statement}
 use Rattle.synchronization_parameters.proofs.synchronization_parameters_tlv.SynchronizationParametersTLV.read.Tie as tie

@@ -1,6 +1,6 @@
 -- `SynchronizationParametersTLV::size` meets its contract: 33 bytes more than the sequence, or its refusal.
 -- Assumes nothing.
-use Rattle.channel_sequence.proofs.SequenceTLVs.{channel-sequence-sized}
+use Rattle.channel_sequence_tlv.proofs.SequenceTLVs.{channel-sequence-sized}
 use Rattle.synchronization_parameters.proofs.synchronization_parameters_tlv.SynchronizationParametersTLV.size.Statement.{statement}
 use Rattle.synchronization_parameters.proofs.synchronization_parameters_tlv.SynchronizationParametersTLV.size.Tie as tie
 use Rattle.wire.proofs.Once.{told}

@@ -1,0 +1,5 @@
+pub mod Beside
+pub mod SequenceTLVs
+pub mod Laid
+pub mod ReadSequenceTLVs
+pub mod Edges
