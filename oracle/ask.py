@@ -316,11 +316,14 @@ def writing_answer(write):
     return answer
 
 
-def fixed_answer(channel):
-    try:
-        return f"{ACCEPTED} {show_sequence(awdl.fixed_sequence(channel))}"
-    except Refused as refusal:
-        return f"{show_refusal(refusal)} {show_sequence(awdl.ZERO_SEQUENCE)}"
+def sequence_answer(make):
+    """A sequence alone."""
+    def answer(argument):
+        try:
+            return f"{ACCEPTED} {show_sequence(make(argument))}"
+        except Refused as refusal:
+            return f"{show_refusal(refusal)} {show_sequence(awdl.ZERO_SEQUENCE)}"
+    return answer
 
 
 def entry_answer(sequence, entry):
@@ -459,6 +462,8 @@ REFUSALS = one_of({
     "Inconsistent": awdl.INCONSISTENT,
     "TooLong": awdl.TOO_LONG,
     "ChannelCount": awdl.CHANNEL_COUNT,
+    "LegacySequence": awdl.LEGACY_SEQUENCE,
+    "CorrectedChannel": awdl.CORRECTED_CHANNEL,
 })
 ENTRY_KINDS = one_of({
     "simple": awdl.SIMPLE, "legacy": awdl.LEGACY, "opclass": awdl.OPCLASS,
@@ -539,6 +544,8 @@ CALLS = {
         [SYNCHRONIZATION], number_answer("consistent", awdl.synchronization_is_consistent)),
     "synchronization_size": (
         [SYNCHRONIZATION], number_answer("size", awdl.synchronization_size)),
+    "synchronization_written_size": (
+        [SYNCHRONIZATION], number_answer("size", awdl.synchronization_written_size)),
     "synchronization_write": (
         [SYNCHRONIZATION, BUFFER], writing_answer(awdl.write_synchronization)),
     "channel_sequence_read": ([BYTES, AT], reading_answer(
@@ -549,6 +556,8 @@ CALLS = {
         number_answer("consistent", awdl.channel_sequence_is_consistent)),
     "channel_sequence_size": (
         [CHANNEL_SEQUENCE], number_answer("size", awdl.channel_sequence_size)),
+    "channel_sequence_written_size": (
+        [CHANNEL_SEQUENCE], number_answer("size", awdl.channel_sequence_written_size)),
     "channel_sequence_head": (
         [CHANNEL_SEQUENCE],
         lambda record: f"{ACCEPTED} head={show_bytes(awdl.channel_sequence_head(record))}"),
@@ -559,9 +568,12 @@ CALLS = {
     "sequence_consistent": (
         [SEQUENCE], number_answer("consistent", awdl.sequence_is_consistent)),
     "sequence_size": ([SEQUENCE], number_answer("size", awdl.sequence_size)),
+    "sequence_written_size": (
+        [SEQUENCE], number_answer("size", awdl.sequence_written_size)),
     "sequence_write": ([SEQUENCE, BUFFER], writing_answer(awdl.write_sequence)),
     "sequence_entry": ([SEQUENCE, AT], entry_answer),
-    "sequence_fixed": ([CHANNEL], fixed_answer),
+    "sequence_fixed": ([CHANNEL], sequence_answer(awdl.fixed_sequence)),
+    "sequence_to_simple": ([SEQUENCE], sequence_answer(awdl.sequence_to_simple)),
     "channel": ([CHANNEL], number_answer("channel", awdl.corrected_channel)),
     "encoding": ([U8], number_answer("encoding", awdl.known_encoding)),
     "encoding_size": ([U8], number_answer("size", awdl.entry_size)),

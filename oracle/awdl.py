@@ -1,6 +1,6 @@
 """One reading of docs/01-scope.md (01), in its order and words, with No. 1,
-No. 2, No. 4, No. 5 and No. 7 of docs/02-change-requests.md (02). No. 14, which
-is taken up too, reads and writes as they do.
+No. 2, No. 4, No. 5, No. 7 and No. 10 of docs/02-change-requests.md (02). No. 14,
+which is taken up too, reads and writes as they do.
 
 It is written from these alone; only the names of bits, and the numbers of types
 and subtypes that 01 does not list, are the Rust's. A reader gives its size
@@ -12,17 +12,20 @@ of the field that did not fit.
 from collections import namedtuple
 
 
-# Numbers a call can answer with; 9 is no longer given (02, No. 1).
+# Numbers a call can answer with; 9 is no longer given (02, No. 1), and 11 to 17
+# belong to requests that are not taken up.
 
 SHORT = 1                   # the input ends before a needed byte
 NOT_ACTION = 2              # first frame byte present and not 0x08
 NOT_VERSION = 3             # second frame byte present and not 0x10
 UNICAST_LENGTH = 4          # unicast length neither 4 nor 8
-ENCODING = 5                # channel encoding not 0, 1 or 3
+ENCODING = 5                # channel encoding not 0, 1 or 3; to be converted, not 1 (02)
 NO_ROOM = 6                 # the buffer is shorter than the size to write
 INCONSISTENT = 7            # the record is not consistent
 TOO_LONG = 8                # an item value is longer than 65,535 bytes
 CHANNEL_COUNT = 10          # the count byte of a channel sequence is not 15 (02)
+LEGACY_SEQUENCE = 18        # a legacy sequence is to be written (02)
+CORRECTED_CHANNEL = 19      # a corrected channel would be none of 0 to 255 (02)
 
 
 class Refused(Exception):
@@ -449,10 +452,25 @@ def sequence_bytes(sequence):
 
 
 def sequence_size(sequence):
+    """A legacy sequence has its size as before (02, No. 10)."""
     return len(sequence_bytes(sequence))
 
 
+def check_written(sequence):
+    """A legacy sequence is not written, alone or in a record, consistent or
+    not: 18 is checked after 5 and before 7 (02, No. 10)."""
+    if known_encoding(sequence.encoding) == LEGACY:
+        raise Refused(LEGACY_SEQUENCE)
+
+
+def sequence_written_size(sequence):
+    """What its writer puts, given the room."""
+    check_written(sequence)
+    return sequence_size(sequence)
+
+
 def write_sequence(sequence, buffer):
+    check_written(sequence)
     return put(sequence_bytes(sequence), buffer)
 
 
@@ -491,17 +509,31 @@ def band(flags):
     return flags >> 4 & 3
 
 
+def correction(flags):
+    """Two below for support channel 1, two above for 2, else none."""
+    return {1: -2, 2: 2}.get(support_channel(flags), 0)
+
+
 def corrected_channel(channel):
-    """Two below for support channel 1, two above for 2, else itself, counted
-    modulo 256; only a legacy channel is corrected."""
+    """Counted modulo 256; only a legacy channel is corrected."""
     if known_encoding(channel.encoding) != LEGACY:
         return channel.first
-    support = support_channel(channel.first)
-    if support == 1:
-        return (channel.second - 2) % 256
-    if support == 2:
-        return (channel.second + 2) % 256
-    return channel.second
+    return (channel.second + correction(channel.first)) % 256
+
+
+def sequence_to_simple(sequence):
+    """A legacy sequence as a simple one: its 16 channels as corrected, without
+    their flags (02, No. 10). Refused with 5 where it is no legacy sequence, then
+    with 7, then with 19: a correction is a whole number here and does not wrap."""
+    if sequence.encoding != LEGACY:
+        raise Refused(ENCODING)
+    if not sequence_is_consistent(sequence):
+        raise Refused(INCONSISTENT)
+    flags_and_channels = zip(sequence.bytes[0::2], sequence.bytes[1::2])
+    corrected = [channel + correction(flags) for flags, channel in flags_and_channels]
+    if min(corrected) < 0 or max(corrected) > 255:
+        raise Refused(CORRECTED_CHANNEL)
+    return Sequence(SIMPLE, bytes(corrected).ljust(32, b"\0"))
 
 
 # The channel sequence behind the synchronization fields (02, No. 2), which is
@@ -557,7 +589,13 @@ def channel_sequence_size(record):
     return len(channel_sequence_bytes(record))
 
 
+def channel_sequence_written_size(record):
+    check_written(record.sequence)
+    return channel_sequence_size(record)
+
+
 def write_channel_sequence(record, buffer):
+    check_written(record.sequence)
     return put(channel_sequence_bytes(record), buffer)
 
 
@@ -581,7 +619,13 @@ def synchronization_size(record):
     return len(synchronization_bytes(record))
 
 
+def synchronization_written_size(record):
+    check_written(record.channel_sequence.sequence)
+    return synchronization_size(record)
+
+
 def write_synchronization(record, buffer):
+    check_written(record.channel_sequence.sequence)
     return put(synchronization_bytes(record), buffer)
 
 

@@ -1,12 +1,13 @@
 """Makes questions for docs/ASK.md: random and damaged frames and values, every
 cut of good ones, cuts around the first byte of each field, offsets of short
 values in their frames, places behind the start and past the end, channel
-sequences with wrong counts and encodings, records of every presence, reserved
-bytes and pads of any value, records that were read and are written again,
-archives of records laid end to end, buffers short, exact and long, numbers at
-the limits of their fields, words with one bit set or one clear, stamps between
-which the clock has rolled over, bytes in every form, bad questions, and lines
-around the longest one.
+sequences with wrong counts and encodings, legacy sequences whose corrections
+come near 0 and 255 and what they are converted to, records of every presence,
+reserved bytes and pads of any value, records that were read and are written
+again, archives of records laid end to end, buffers short, exact and long,
+numbers at the limits of their fields, words with one bit set or one clear,
+stamps between which the clock has rolled over, bytes in every form, bad
+questions, and lines around the longest one.
 """
 
 import re
@@ -326,13 +327,28 @@ def data_path_words(record):
     return words_of(ask.show_data_path(record))
 
 
+def legacy():
+    """A legacy sequence, consistent as a rule. Up to three of its entries are
+    corrected to 0 or 255, or nearly so; one in two of these leaves (02, No. 10)."""
+    data = bytearray(R.randbytes(32))
+    data[0::2] = bytes(flags & awdl.LEGACY_KEEP for flags in data[0::2])
+    for _ in range(R.getrandbits(2)):
+        at = 2 * R.getrandbits(4)
+        support, lowest = R.choice(((1, 0), (2, 252)))
+        data[at] = data[at] & ~3 | support
+        data[at + 1] = lowest + R.getrandbits(2)
+    if chance(6):
+        data[2 * R.getrandbits(4)] |= R.choice((0x40, 0x80, 0xC0))
+    return awdl.Sequence(awdl.LEGACY, bytes(data))
+
+
 def sequence():
-    kind = encoding()
+    kind = R.choice((0, 1, 3)) if chance(1.2) else some(255)
+    if kind == awdl.LEGACY:
+        return legacy()
     data = R.randbytes(32)
     if kind == 0 and chance(1.3):
         data = data[:16] + bytes(16)
-    if kind == 1 and chance(1.3):
-        data = bytes(data[at] & 0x3F if at % 2 == 0 else data[at] for at in range(32))
     if chance(5):
         data = data[:-1] + b"\0"
     return awdl.Sequence(kind, data)
@@ -451,7 +467,8 @@ LISTED = [
 ]
 REFUSALS = (
     "Short", "NotAction", "NotVersion", "UnicastLength", "Encoding", "NoRoom",
-    "Inconsistent", "TooLong", "ChannelCount", "SentBeforeHandOver", "short", "None",
+    "Inconsistent", "TooLong", "ChannelCount", "LegacySequence", "CorrectedChannel",
+    "SentBeforeHandOver", "short", "None",
 )
 TYPED = {
     awdl.DATA_PATH_TYPE: ("data_path_read", awdl.read_data_path, data_path_value),
@@ -636,7 +653,7 @@ def every_buffer():
 
 
 def synchronization_ask():
-    name = R.choice(("consistent", "size"))
+    name = R.choice(("consistent", "size", "written_size"))
     return [f"synchronization_{name} {synchronization_words(synchronization())}"]
 
 
@@ -664,7 +681,7 @@ def every_channel_sequence_cut():
 
 
 def channel_sequence_ask():
-    name = R.choice(("consistent", "size", "head"))
+    name = R.choice(("consistent", "size", "written_size", "head"))
     return [f"channel_sequence_{name} {channel_sequence_words(channel_sequence())}"]
 
 
@@ -689,7 +706,7 @@ def sequence_read():
 
 
 def sequence_ask():
-    name = R.choice(("consistent", "size"))
+    name = R.choice(("consistent", "size", "written_size"))
     return [f"sequence_{name} {sequence_words(sequence())}"]
 
 
@@ -702,6 +719,49 @@ def sequence_write():
 def sequence_entry():
     entry = R.randrange(18) if chance(1.2) else some(LARGEST)
     return [f"sequence_entry {sequence_words(sequence())} {entry}"]
+
+
+def to_simple():
+    """A conversion. Where it gives a sequence, this is written, and one entry is
+    asked of both (02, No. 10)."""
+    record = sequence() if chance(5) else legacy()
+    lines = [f"sequence_to_simple {sequence_words(record)}"]
+    try:
+        simple = awdl.sequence_to_simple(record)
+    except awdl.Refused:
+        return lines
+    entry = R.getrandbits(4)
+    lines.append(f"sequence_write {sequence_words(simple)} {buffer(16)}")
+    lines.append(f"sequence_entry {sequence_words(simple)} {entry}")
+    lines.append(f"channel {words_of(ask.show_channel(awdl.sequence_entry(record, entry)))}")
+    return lines
+
+
+def converted():
+    """A value that is read with a legacy sequence, its flags with dropped bits;
+    its record in a writer; the conversion; and the record with what that gave
+    in the same writer (02, No. 10)."""
+    sent = bytearray(legacy().bytes)
+    sent[0::2] = bytes(flags | R.getrandbits(2) << 6 for flags in sent[0::2])
+    data = bytes([15, awdl.LEGACY]) + R.randbytes(4) + sent
+    part = awdl.read_channel_sequence(data)[1]
+    name, at, words, whole = "channel_sequence", " 0", channel_sequence_words, lambda record: record
+    if chance(2):
+        fixed = R.randbytes(33)
+        data = fixed + data
+        fields = awdl.fixed_fields(fixed)
+        name, at, words = "synchronization", "", synchronization_words
+        whole = lambda record: awdl.Synchronization(*fields, record)
+    lines = [
+        f"{name}_read {spell(data)}{at}",
+        f"{name}_write {words(whole(part))} {buffer(len(data))}",
+        f"sequence_to_simple {sequence_words(part.sequence)}",
+    ]
+    try:
+        part = part._replace(sequence=awdl.sequence_to_simple(part.sequence))
+    except awdl.Refused:
+        return lines
+    return [*lines, f"{name}_write {words(whole(part))} {buffer(len(data) - 16)}"]
 
 
 def of_channel():
@@ -816,7 +876,7 @@ MAKERS = [
     *[sequence_write] * 2, *[sequence_entry] * 2, *[of_channel] * 2, *[small] * 2,
     one_bit_kept, two_words, listed, *[next_line] * 3, *[field_cut] * 6, header_cut,
     *[short_in_frame] * 2, *[offset_in_frame] * 3, refusal, *[written_again] * 4,
-    *[archive] * 2,
+    *[archive] * 2, *[to_simple] * 4, *[converted] * 2,
 ]
 EVERY = [
     *[every_cut] * 3, *[every_place] * 2, every_buffer, every_channel_sequence_cut,

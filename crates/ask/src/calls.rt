@@ -43,115 +43,124 @@ pub(crate) const SYNCHRONIZATION_CONSISTENT: usize = 13;
 
 pub(crate) const SYNCHRONIZATION_SIZE: usize = 14;
 
-pub(crate) const CHANNEL_SEQUENCE_READ: usize = 15;
+pub(crate) const SYNCHRONIZATION_WRITTEN_SIZE: usize = 15;
 
-pub(crate) const CHANNEL_SEQUENCE_CONSISTENT: usize = 16;
+pub(crate) const CHANNEL_SEQUENCE_READ: usize = 16;
 
-pub(crate) const CHANNEL_SEQUENCE_SIZE: usize = 17;
+pub(crate) const CHANNEL_SEQUENCE_CONSISTENT: usize = 17;
 
-pub(crate) const SEQUENCE_READ: usize = 18;
+pub(crate) const CHANNEL_SEQUENCE_SIZE: usize = 18;
 
-pub(crate) const SEQUENCE_CONSISTENT: usize = 19;
+pub(crate) const CHANNEL_SEQUENCE_WRITTEN_SIZE: usize = 19;
 
-pub(crate) const SEQUENCE_SIZE: usize = 20;
+pub(crate) const SEQUENCE_READ: usize = 20;
 
-pub(crate) const SEQUENCE_FIXED: usize = 21;
+pub(crate) const SEQUENCE_CONSISTENT: usize = 21;
 
-pub(crate) const CHANNEL: usize = 22;
+pub(crate) const SEQUENCE_SIZE: usize = 22;
 
-pub(crate) const ENCODING: usize = 23;
+pub(crate) const SEQUENCE_WRITTEN_SIZE: usize = 23;
 
-pub(crate) const ENCODING_SIZE: usize = 24;
+pub(crate) const SEQUENCE_FIXED: usize = 24;
 
-pub(crate) const ENTRY_SIZE: usize = 25;
+pub(crate) const SEQUENCE_TO_SIMPLE: usize = 25;
 
-pub(crate) const LEGACY_FLAGS: usize = 26;
+pub(crate) const CHANNEL: usize = 26;
 
-pub(crate) const SUPPORT_CHANNEL: usize = 27;
+pub(crate) const ENCODING: usize = 27;
 
-pub(crate) const CHANNEL_BANDWIDTH: usize = 28;
+pub(crate) const ENCODING_SIZE: usize = 28;
 
-pub(crate) const BAND: usize = 29;
+pub(crate) const ENTRY_SIZE: usize = 29;
 
-pub(crate) const STEP: usize = 30;
+pub(crate) const LEGACY_FLAGS: usize = 30;
 
-pub(crate) const STEP_WITH_VALUE: usize = 31;
+pub(crate) const SUPPORT_CHANNEL: usize = 31;
 
-pub(crate) const VALUE: usize = 32;
+pub(crate) const CHANNEL_BANDWIDTH: usize = 32;
 
-pub(crate) const END: usize = 33;
+pub(crate) const BAND: usize = 33;
 
-pub(crate) const WALK: usize = 34;
+pub(crate) const STEP: usize = 34;
 
-pub(crate) const READER_NEXT: usize = 35;
+pub(crate) const STEP_WITH_VALUE: usize = 35;
 
-pub(crate) const FIRST_DATA_PATH: usize = 36;
+pub(crate) const VALUE: usize = 36;
 
-pub(crate) const NEXT_DATA_PATH: usize = 37;
+pub(crate) const END: usize = 37;
 
-pub(crate) const READER_FIRST_DATA_PATH: usize = 38;
+pub(crate) const WALK: usize = 38;
 
-pub(crate) const ALL_DATA_PATHS: usize = 39;
+pub(crate) const READER_NEXT: usize = 39;
 
-pub(crate) const FIRST_SYNCHRONIZATION: usize = 40;
+pub(crate) const FIRST_DATA_PATH: usize = 40;
 
-pub(crate) const NEXT_SYNCHRONIZATION: usize = 41;
+pub(crate) const NEXT_DATA_PATH: usize = 41;
 
-pub(crate) const READER_FIRST_SYNCHRONIZATION: usize = 42;
+pub(crate) const READER_FIRST_DATA_PATH: usize = 42;
 
-pub(crate) const ALL_SYNCHRONIZATIONS: usize = 43;
+pub(crate) const ALL_DATA_PATHS: usize = 43;
 
-pub(crate) const FIRST_CHANNEL_SEQUENCE: usize = 44;
+pub(crate) const FIRST_SYNCHRONIZATION: usize = 44;
 
-pub(crate) const NEXT_CHANNEL_SEQUENCE: usize = 45;
+pub(crate) const NEXT_SYNCHRONIZATION: usize = 45;
 
-pub(crate) const READER_FIRST_CHANNEL_SEQUENCE: usize = 46;
+pub(crate) const READER_FIRST_SYNCHRONIZATION: usize = 46;
 
-pub(crate) const ALL_CHANNEL_SEQUENCES: usize = 47;
+pub(crate) const ALL_SYNCHRONIZATIONS: usize = 47;
 
-pub(crate) const FRAME_TAIL: usize = 48;
+pub(crate) const FIRST_CHANNEL_SEQUENCE: usize = 48;
 
-pub(crate) const OFFSET_IN_FRAME: usize = 49;
+pub(crate) const NEXT_CHANNEL_SEQUENCE: usize = 49;
 
-pub(crate) const CHANNEL_SEQUENCE_HEAD: usize = 50;
+pub(crate) const READER_FIRST_CHANNEL_SEQUENCE: usize = 50;
 
-pub(crate) const SEQUENCE_ENTRY: usize = 51;
+pub(crate) const ALL_CHANNEL_SEQUENCES: usize = 51;
 
-pub(crate) const DUMP_START: usize = 52;
+pub(crate) const FRAME_TAIL: usize = 52;
 
-pub(crate) const LINES: usize = 53;
+pub(crate) const OFFSET_IN_FRAME: usize = 53;
 
-pub(crate) const DUMP: usize = 54;
+pub(crate) const CHANNEL_SEQUENCE_HEAD: usize = 54;
 
-pub(crate) const CONSTANTS: usize = 55;
+pub(crate) const SEQUENCE_ENTRY: usize = 55;
 
-pub(crate) const NEXT_LINE: usize = 56;
+pub(crate) const DUMP_START: usize = 56;
 
-pub(crate) const FRAME_WRITE: usize = 57;
+pub(crate) const LINES: usize = 57;
 
-pub(crate) const WRITE_ITEM: usize = 58;
+pub(crate) const DUMP: usize = 58;
 
-pub(crate) const DATA_PATH_WRITE: usize = 59;
+pub(crate) const CONSTANTS: usize = 59;
 
-pub(crate) const SYNCHRONIZATION_WRITE: usize = 60;
+pub(crate) const NEXT_LINE: usize = 60;
 
-pub(crate) const CHANNEL_SEQUENCE_WRITE: usize = 61;
+pub(crate) const FRAME_WRITE: usize = 61;
 
-pub(crate) const SEQUENCE_WRITE: usize = 62;
+pub(crate) const WRITE_ITEM: usize = 62;
+
+pub(crate) const DATA_PATH_WRITE: usize = 63;
+
+pub(crate) const SYNCHRONIZATION_WRITE: usize = 64;
+
+pub(crate) const CHANNEL_SEQUENCE_WRITE: usize = 65;
+
+pub(crate) const SEQUENCE_WRITE: usize = 66;
 
 // The names of the calls, in the order of their numbers.
 pub(crate) fn number_of(word: &[u8]) -> Decimal {
     find(
         b"refusal frame_read tx_delta data_path_read data_path_consistent data_path_mend data_path_size \
         channel_word word_of_channel unicast_options extended_flags has synchronization_read \
-        synchronization_consistent synchronization_size channel_sequence_read channel_sequence_consistent \
-        channel_sequence_size sequence_read sequence_consistent sequence_size sequence_fixed channel \
+        synchronization_consistent synchronization_size synchronization_written_size channel_sequence_read \
+        channel_sequence_consistent channel_sequence_size channel_sequence_written_size sequence_read \
+        sequence_consistent sequence_size sequence_written_size sequence_fixed sequence_to_simple channel \
         encoding encoding_size entry_size legacy_flags support_channel channel_bandwidth band step \
         step_with_value value end walk reader_next first_data_path next_data_path reader_first_data_path \
         all_data_paths first_synchronization next_synchronization reader_first_synchronization \
         all_synchronizations first_channel_sequence next_channel_sequence reader_first_channel_sequence \
-        all_channel_sequences frame_tail offset_in_frame channel_sequence_head sequence_entry dump_start lines dump \
-        constants next_line frame_write write_item data_path_write synchronization_write \
+        all_channel_sequences frame_tail offset_in_frame channel_sequence_head sequence_entry dump_start \
+        lines dump constants next_line frame_write write_item data_path_write synchronization_write \
         channel_sequence_write sequence_write",
         word,
     )
@@ -162,8 +171,8 @@ pub(crate) fn put_letters(buf: &mut [u8; 2048]) -> usize {
     wire::put_slice(
         buf,
         0,
-        b"n8 g 44 g D D D 2 kc 4 2 22 g S S g8 R R g81 Q Q C C 1 1 e 1 1 1 1 g8 g8 gI g g g8 g g8 g8 g g g8 g8 \
-        g g g8 g8 g g gI8 R Q8 g g g t gMo Fgl 1gl Dl Sl Rl Ql",
+        b"n8 g 44 g D D D 2 kc 4 2 22 g S S S g8 R R R g81 Q Q Q C Q C 1 1 e 1 1 1 1 g8 g8 gI g g g8 g g8 g8 \
+        g g g8 g8 g g g8 g8 g g gI8 R Q8 g g g t gMo Fgl 1gl Dl Sl Rl Ql",
     )
 }
 
@@ -173,7 +182,7 @@ fn put_answer_letters(buf: &mut [u8; 2048]) -> usize {
     wire::put_slice(
         buf,
         0,
-        b"- ZF U ZD T -D Z -K W B B H ZS T Z AR T Z AQ T Z -Q L E Z Z B B B B",
+        b"- ZF U ZD T -D Z -K W B B H ZS T Z Z AR T Z Z AQ T Z Z -Q -Q L E Z Z B B B B",
     )
 }
 
@@ -185,10 +194,10 @@ fn numbers(call: usize, v: &[u64; 32], given: &[u8]) -> Said {
     if call <= HAS {
         return crate::data_path::answer(call, v, bytes);
     }
-    if call <= SYNCHRONIZATION_SIZE {
+    if call <= SYNCHRONIZATION_WRITTEN_SIZE {
         return crate::synchronization::answer(call, v, given);
     }
-    if call <= SEQUENCE_FIXED {
+    if call <= SEQUENCE_TO_SIMPLE {
         return sequences::answer(call, v, given);
     }
     crate::channels::answer(call, v)

@@ -72,7 +72,8 @@ fn put_words(buf: &mut [u8; 2048]) -> usize {
         b"single map\n\
         simple legacy opclass\n\
         too_long frame item data_path synchronization end\n\
-        Short NotAction NotVersion UnicastLength Encoding NoRoom Inconsistent TooLong ChannelCount\n\
+        Short NotAction NotVersion UnicastLength Encoding NoRoom Inconsistent TooLong ChannelCount \
+        LegacySequence CorrectedChannel\n\
         types sizes subtypes data_path_flags extended_flags unicast_options channel_map legacy_flags",
     )
 }

@@ -70,7 +70,9 @@ fn refusal_of(n: u64, offset: usize) -> Refusal {
         5 => Refusal::NoRoom,
         6 => Refusal::Inconsistent,
         7 => Refusal::TooLong,
-        _ => Refusal::ChannelCount,
+        8 => Refusal::ChannelCount,
+        9 => Refusal::LegacySequence,
+        _ => Refusal::CorrectedChannel,
     }
 }
 

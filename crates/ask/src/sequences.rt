@@ -19,7 +19,8 @@ use crate::words::first;
 use channel_sequence::ChannelSequence;
 use channel_sequence::Consistency;
 use channel_sequence::Entry;
-use channel_sequence::Fixed;
+use channel_sequence::MadeSequence;
+use channel_sequence::Making;
 use channel_sequence_tlv::ChannelSequenceTLV;
 use wire::Size;
 
@@ -87,18 +88,25 @@ pub(crate) fn judged(consistency: Consistency) -> Said {
     }
 }
 
-fn made(answer: Fixed) -> Said {
+fn making(answer: Making) -> Said {
     match answer {
-        Fixed::Made => one(0),
-        Fixed::Refused(why) => refused(why),
+        Making::Made => one(0),
+        Making::Refused(why) => refused(why),
     }
 }
 
+fn made(made: MadeSequence) -> Said {
+    let answer = made.answer;
+    let sequence = made.sequence;
+    making(answer).with(none().sequence(sequence))
+}
+
 fn fixed(v: &[u64; 32]) -> Said {
-    let fixed = ChannelSequence::fixed_channel_sequence(channels::record_of(v));
-    let answer = fixed.answer;
-    let sequence = fixed.sequence;
-    made(answer).with(none().sequence(sequence))
+    made(ChannelSequence::fixed_channel_sequence(channels::record_of(v)))
+}
+
+fn to_simple(v: &[u64; 32], given: &[u8]) -> Said {
+    made(sequence_of(byte_at(v, 0), given).to_simple())
 }
 
 fn size(v: &[u64; 32], given: &[u8]) -> Said {
@@ -107,6 +115,14 @@ fn size(v: &[u64; 32], given: &[u8]) -> Said {
 
 fn record_size(v: &[u64; 32], given: &[u8]) -> Said {
     sized(record_of(v, 0, given).size())
+}
+
+fn written_size(v: &[u64; 32], given: &[u8]) -> Said {
+    sized(sequence_of(byte_at(v, 0), given).written_size())
+}
+
+fn record_written_size(v: &[u64; 32], given: &[u8]) -> Said {
+    sized(record_of(v, 0, given).written_size())
 }
 
 fn consistent(v: &[u64; 32], given: &[u8]) -> Said {
@@ -122,9 +138,12 @@ pub(crate) fn answer(call: usize, v: &[u64; 32], given: &[u8]) -> Said {
         calls::CHANNEL_SEQUENCE_READ => read_record(first(given, size_at(v, 0)), v),
         calls::CHANNEL_SEQUENCE_CONSISTENT => record_consistent(v, given),
         calls::CHANNEL_SEQUENCE_SIZE => record_size(v, given),
+        calls::CHANNEL_SEQUENCE_WRITTEN_SIZE => record_written_size(v, given),
         calls::SEQUENCE_READ => read(first(given, size_at(v, 0)), v),
         calls::SEQUENCE_CONSISTENT => consistent(v, given),
         calls::SEQUENCE_SIZE => size(v, given),
+        calls::SEQUENCE_WRITTEN_SIZE => written_size(v, given),
+        calls::SEQUENCE_TO_SIMPLE => to_simple(v, given),
         _ => fixed(v),
     }
 }

@@ -86,6 +86,10 @@ fn size(v: &[u64; 32], given: &[u8]) -> Said {
     sized(record_of(v, given).size())
 }
 
+fn written_size(v: &[u64; 32], given: &[u8]) -> Said {
+    sized(record_of(v, given).written_size())
+}
+
 pub(crate) fn write(v: &[u64; 32], given: &[u8], buf: &mut [u8]) -> Size {
     record_of(v, given).write(buf)
 }
@@ -94,6 +98,7 @@ pub(crate) fn answer(call: usize, v: &[u64; 32], given: &[u8]) -> Said {
     match call {
         calls::SYNCHRONIZATION_READ => read(first(given, size_at(v, 0))),
         calls::SYNCHRONIZATION_CONSISTENT => consistent(v, given),
+        calls::SYNCHRONIZATION_WRITTEN_SIZE => written_size(v, given),
         _ => size(v, given),
     }
 }

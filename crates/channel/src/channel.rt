@@ -23,6 +23,9 @@ pub enum FoundEncoding {
 }
 
 impl ChannelEncoding {
+    // Sequences of this one are read and no longer written.
+    pub const LEGACY: u8 = 1;
+
     // The one place that tells a listed encoding from any other.
     pub fn from_bits(encoding: u8) -> FoundEncoding
         ensures { λ r. ⌜ saidEncoding r ≡ encodingOf encoding ⌝ }
@@ -30,7 +33,7 @@ impl ChannelEncoding {
         if encoding == 0 {
             return FoundEncoding::Known(ChannelEncoding::Simple);
         }
-        if encoding == 1 {
+        if encoding == ChannelEncoding::LEGACY {
             return FoundEncoding::Known(ChannelEncoding::Legacy);
         }
         if encoding == 3 {

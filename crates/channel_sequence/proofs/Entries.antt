@@ -1,4 +1,4 @@
--- How tests go over a list from the front, and how entries are put behind one another: what is left of the list decides, or is still to be put.
+-- How tests go over a list from the front, and how entries are put behind one another: what is left of the list decides, or is still to be put. When a sequence has a size, and what is written of it.
 -- Assumes nothing.
 use Prim.Native.Nat.{ℕ, zero, suc, _+_, _-_, _*_, _≤_, _<_}
 use native.Mathlib.Nat.{add-zero, add-assoc, sub-zero, zero-sub, suc-sub-suc}
@@ -8,8 +8,10 @@ use mathlib.Core.Path.{_≡_, refl, sym, ap, _∙_}
 use mathlib.Core.Bool.{Bool, true, false, _&&_, and-true}
 use mathlib.Core.List.{List, [], _∷_, _++_, append-assoc, append-nil}
 use lib.Dec.{eqb}
-use lib.ListN.{length, getD, take, drop, set, replicate, length-set}
+use lib.ListN.{length, getD, take, drop, set, replicate, length-set, take-append-drop}
+use borrow.Author.Tests.{eqb-true}
 use lib.Seq.{getD-drop, drop-cons, drop-drop, take-suc-set, length-take-le}
+use Rattle.wire.specs.declared.refusal.Refusal.the-variants.{LegacySequence}
 use Rattle.wire.specs.Answer.{Answer, answer, refusal}
 use Rattle.wire.specs.Writing.{Put, lengthOf}
 use Rattle.wire.proofs.Stores.{put-all}
@@ -18,7 +20,7 @@ use Rattle.channel.specs.declared.channel.ChannelEncoding.the-variants.{Simple,
 use Rattle.channel_sequence.specs.declared.channel_sequence.ChannelSequence.{ChannelSequence}
 use Rattle.channel.specs.Channels.{encodingOf, entrySize}
 use Rattle.channel_sequence.specs.Hops.{entryChannel}
-use Rattle.channel_sequence.specs.Sequences.{allZero, flagsFit, allFlagsFit, padded, sizeOf, bytesOf, consistentBytes}
+use Rattle.channel_sequence.specs.Sequences.{allZero, flagsFit, allFlagsFit, padded, isLegacy, sizeOf, bytesOf, consistentBytes}
 
 -- what stands from a place on begins with the byte there, and with the two there
 one-at : (s : List ℕ) (i : ℕ) → i < length s → drop i s ≡ getD s i 0 ∷ drop (i + 1) s
@@ -83,6 +85,12 @@ zeros-behind (suc n) (suc k) = zeros-behind n k ∙ rw (suc-sub-suc n k)
 pub padded-over : {part : List ℕ} {next : ℕ} {t : List ℕ} → length part ≤ 32 → Put (replicate 32 0) 0 part next t → t ≡ padded part
 padded-over {part} h p = put-all p h .1 ∙ ap (λ (z : List ℕ). part ++ z) (zeros-behind 32 (length part))
 
+-- sixteen bytes in front of zeros are padded, and so are 32 bytes
+pub padded-half : (bytes : List ℕ) → length bytes ≡ 32 → drop 16 bytes ≡ replicate 16 0 → padded (take 16 bytes) ≡ bytes
+padded-half bytes whole zeros =
+    let front : length (take 16 bytes) ≡ 16 = length-take-le 16 bytes (omega arith) in
+    rw (front, ← zeros) (take-append-drop 16 bytes)
+
 pub padded-full : (bytes : List ℕ) → length bytes ≡ 32 → padded bytes ≡ bytes
 padded-full bytes e = rw e (append-nil bytes)
 
@@ -112,20 +120,40 @@ size-most Simple = omega arith
 size-most Legacy = omega arith
 size-most OpClass = omega arith
 
-pub wire-bytes : {q : ChannelSequence} {n : ℕ} → SequenceSized q n → bytesOf q ≡ answer (take n (q .bytes))
-wire-bytes w = rw (w .found, w .consistent, w .size)
+-- a legacy sequence is not written, whatever its bytes are
+pub legacy-refused : (q : ChannelSequence) → isLegacy q ≡ true → bytesOf q ≡ refusal LegacySequence
+unfolding encodingOf
+legacy-refused q legacy = rw (eqb-true (q .encoding) 1 legacy)
 
--- the size is the number of bytes that are written
-pub size-length : (q : ChannelSequence) → length (q .bytes) ≡ 32 → lengthOf (bytesOf q) ≡ sizeOf q
-size-length q whole = go (encodingOf (q .encoding)) refl
+-- the size of any other is the number of bytes that are written
+pub size-length : (q : ChannelSequence) → length (q .bytes) ≡ 32 → isLegacy q ≡ false → lengthOf (bytesOf q) ≡ sizeOf q
+size-length q whole other = go (encodingOf (q .encoding)) refl
   where
     settle : (encoding : ChannelEncoding) → encodingOf (q .encoding) ≡ answer encoding
         → (b : Bool) → consistentBytes encoding (q .bytes) ≡ b → lengthOf (bytesOf q) ≡ sizeOf q
     settle encoding f true h =
         let most = size-most encoding in
-        rw (f, h) (ap answer (length-take-le (16 * entrySize encoding) (q .bytes) (omega arith)))
-    settle encoding f false h = rw (f, h)
+        rw (f, other, h) (ap answer (length-take-le (16 * entrySize encoding) (q .bytes) (omega arith)))
+    settle encoding f false h = rw (f, other, h)
 
     go : (found : Answer ChannelEncoding) → encodingOf (q .encoding) ≡ found → lengthOf (bytesOf q) ≡ sizeOf q
     go (answer encoding) f = settle encoding f (consistentBytes encoding (q .bytes)) refl
     go (refusal why) f = rw f
+
+wire-bytes : {q : ChannelSequence} {n : ℕ} → SequenceSized q n → isLegacy q ≡ false → bytesOf q ≡ answer (take n (q .bytes))
+wire-bytes w other = rw (w .found, other, w .consistent, w .size)
+
+-- where so many bytes are written, they are the first ones of the sequence
+pub record SequenceWritten (q : ChannelSequence) (n : ℕ) : Type 0 where
+  pub few : n ≤ 32
+  pub bytes : bytesOf q ≡ answer (take n (q .bytes))
+
+pub sequence-written : (q : ChannelSequence) → length (q .bytes) ≡ 32 → {n : ℕ} → lengthOf (bytesOf q) ≡ answer n → SequenceWritten q n
+sequence-written q whole {n} e = go (isLegacy q) refl
+  where
+    go : (b : Bool) → isLegacy q ≡ b → SequenceWritten q n
+    go true legacy = absurd (let e′ = rw (legacy-refused q legacy) at e in let z : _≡_ {A = ℕ} 0 1 = cc in omega arith)
+    go false other =
+        let w = sequence-sized q (sym (size-length q whole other) ∙ e) in
+        let most = size-most (w .encoding) in
+        record { few = omega (arith, w .size); bytes = wire-bytes w other }

@@ -6,3 +6,4 @@ pub mod RoundTrip
 pub mod ReadConsistent
 pub mod Laid
 pub mod Again
+pub mod Corrections

@@ -1,19 +1,16 @@
--- A consistent sequence fills exactly its size and reads back as itself, from any place and with anything behind; its reader keeps the laws of every reader.
+-- A consistent sequence has bytes that fill exactly its size and are read as itself, from any place and with anything behind; unless it is a legacy one, they are written. Its reader keeps the laws of every reader.
 -- Assumes nothing.
-use Prim.Native.Nat.{ℕ, _*_, _≤_}
-use native.Mathlib.Nat.{zero-add}
+use Prim.Native.Nat.{ℕ, _*_}
 use native.Mathlib.Omega.{arith}
-use mathlib.Core.Path.{_≡_, refl, sym, ap, ap₂, _∙_}
-use mathlib.Core.Bool.{true}
-use mathlib.Core.List.{List, [], _∷_, _++_}
-use lib.Dec.{eqb, leb}
-use lib.ListN.{length, take, drop, replicate, length-drop, take-append-drop}
-use lib.Seq.{length-take-le, take-all, drop-append-seam}
-use borrow.Author.Tests.{le-leb, eqb-true}
-use Rattle.wire.specs.Reading.{read}
+use mathlib.Core.Path.{_≡_, refl, ap₂}
+use mathlib.Core.Bool.{true, false}
+use mathlib.Core.List.{List, [], _∷_}
+use lib.Dec.{eqb}
+use lib.ListN.{length, take, drop, replicate, length-drop}
+use lib.Seq.{length-take-le, take-all}
+use borrow.Author.Tests.{eqb-true}
 use Rattle.wire.specs.declared.refusal.Refusal.the-variants.{Encoding}
 use Rattle.wire.specs.Answer.{Answer, answer, refusal, asked}
-use Rattle.wire.specs.Writing.{within, lengthOf, afterwards}
 use Rattle.wire.proofs.Lawful.{Lawful, give-lawful, refuse-lawful, bind-lawful, asked-lawful, made-lawful, field-lawful}
 use Rattle.wire.proofs.Tests.{both}
 use Rattle.wire.proofs.ReadsBack.{Back, bind-back, asked-back, made-back, field-back}
@@ -21,9 +18,9 @@ use Rattle.channel.specs.declared.channel.ChannelEncoding.{ChannelEncoding}
 use Rattle.channel.specs.declared.channel.ChannelEncoding.the-variants.{Simple, Legacy, OpClass}
 use Rattle.channel_sequence.specs.declared.channel_sequence.ChannelSequence.{ChannelSequence}
 use Rattle.channel.specs.Channels.{encodingOf, entrySize}
-use Rattle.channel_sequence.specs.Sequences.{allZero, consistentBytes, consistent, sizeOf, bytesOf, padded}
+use Rattle.channel_sequence.specs.Sequences.{allZero, consistentBytes, consistent, isLegacy, sizeOf, bytesOf, padded}
 use Rattle.channel_sequence.specs.SequenceReader.{keptBytes, sequence}
-use Rattle.channel_sequence.proofs.Entries.{padded-full, size-most}
+use Rattle.channel_sequence.proofs.Entries.{padded-half, padded-full, size-most}
 use Rattle.channel_sequence.proofs.KeptEntries.{entries-same}
 
 all-zero : (s : List ℕ) → allZero s ≡ true → s ≡ replicate (length s) 0
@@ -36,19 +33,18 @@ all-zero (b ∷ rest) e =
 restored : (encoding : ChannelEncoding) (bytes : List ℕ) → length bytes ≡ 32 → consistentBytes encoding bytes ≡ true
     → padded (keptBytes encoding (take (16 * entrySize encoding) bytes)) ≡ bytes
 restored Simple bytes whole e =
-    let front : length (take 16 bytes) ≡ 16 = length-take-le 16 bytes (omega arith) in
     let rest : length (drop 16 bytes) ≡ 16 = simp length-drop (omega arith) in
-    rw front
-    (ap (λ (z : List ℕ). take 16 bytes ++ z) (sym (rw rest at (all-zero (drop 16 bytes) e))) ∙ take-append-drop 16 bytes)
+    padded-half bytes whole (rw rest at (all-zero (drop 16 bytes) e))
 restored Legacy bytes whole e =
     rw (take-all 32 bytes (omega arith), entries-same bytes e) (padded-full bytes whole)
 restored OpClass bytes whole e = rw (take-all 32 bytes (omega arith)) (padded-full bytes whole)
 
--- the bytes of a sequence: as many as its size says, and read back as the sequence
+-- the bytes of a sequence: its first ones, as many as its size says, and read as the sequence; a legacy one is not written
 pub record SequenceFilled (q : ChannelSequence) : Type 0 where
   pub bytes : List ℕ
-  pub written : bytesOf q ≡ answer bytes
+  pub front : bytes ≡ take (length bytes) (q .bytes)
   pub size : sizeOf q ≡ answer (length bytes)
+  pub written : isLegacy q ≡ false → bytesOf q ≡ answer bytes
   pub back : Back (sequence (q .encoding)) bytes q
 
 pub round-trip : (q : ChannelSequence) → length (q .bytes) ≡ 32 → consistent q ≡ answer true → SequenceFilled q
@@ -66,22 +62,12 @@ round-trip q whole e = go (encodingOf (q .encoding)) refl
         (field-back size part many) in
         record {
           bytes = part;
-          written = rw (f, right);
+          front = rw many;
           size = rw (f, right, many);
+          written = λ other. rw (f, other, right);
           back = bind-back _ (asked-back f) (rw (restored encoding (q .bytes) whole right) at reads);
         }
     go (refusal why) f = absurd (let e′ = rw f at e in let z : _≡_ {A = ℕ} 0 1 = cc in omega arith)
-
--- a consistent sequence, written into enough room, reads back as itself, and what stood behind its size still stands there
-pub written-back : (q : ChannelSequence) (s : List ℕ) (w : SequenceFilled q) → length (w .bytes) ≤ length s
-    → let after : List ℕ = afterwards s (bytesOf q) (within (length s) (lengthOf (bytesOf q))) in
-    (sequence (q .encoding) after 0 ≡ read q (length (w .bytes))) × (drop (length (w .bytes)) after ≡ drop (length (w .bytes)) s)
-written-back q s w h =
-    let room : leb (length (w .bytes)) (length s) ≡ true = le-leb (length (w .bytes)) (length s) h in
-    let rest = drop (length (w .bytes)) s in (
-      rw (w .written, room) (w .back .back [] rest ∙ ap (read q) (zero-add (length (w .bytes)))),
-      rw (w .written, room) (drop-append-seam (w .bytes) rest),
-    )
 
 pub encoding-lawful : (n : ℕ) → Lawful (asked (encodingOf n))
 unfolding encodingOf

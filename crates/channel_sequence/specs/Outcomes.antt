@@ -7,8 +7,8 @@ use Rattle.wire.specs.Outcomes.{Outcome, outcome, Result, result}
 use Rattle.channel_sequence.specs.declared.channel_sequence.ChannelSequence.{ChannelSequence}
 use Rattle.channel_sequence.specs.declared.channel_sequence.Consistency.{Consistency}
 use Rattle.channel_sequence.specs.declared.channel_sequence.ReadSequence.{ReadSequence}
-use Rattle.channel_sequence.specs.declared.channel_sequence.Fixed.{Fixed}
-use Rattle.channel_sequence.specs.declared.channel_sequence.FixedSequence.{FixedSequence}
+use Rattle.channel_sequence.specs.declared.channel_sequence.Making.{Making}
+use Rattle.channel_sequence.specs.declared.channel_sequence.MadeSequence.{MadeSequence}
 use Rattle.channel_sequence.specs.declared.channel_sequence.Entry.{Entry}
 use Rattle.channel_sequence.specs.Sequences.{zeroSequence}
 use Rattle.channel_sequence.specs.Hops.{Hop, hop, zeroChannel}
@@ -24,9 +24,9 @@ resultEntry r = result (hop zeroChannel) (saidEntry r)
 abbrev pub outcomeSequence : ℕ → ReadSequence → Outcome ChannelSequence
 outcomeSequence at r = outcome zeroSequence at (saidBeside (r .answer) (r .sequence))
 
-abbrev pub fixedOf : Fixed → ChannelSequence → Answer ChannelSequence
-fixedOf Fixed.Made q = answer q
-fixedOf (Fixed.Refused why) q = refusal why
+abbrev pub saidMade : Making → ChannelSequence → Answer ChannelSequence
+saidMade Making.Made q = answer q
+saidMade (Making.Refused why) q = refusal why
 
-abbrev pub resultFixed : FixedSequence → Result ChannelSequence
-resultFixed r = result zeroSequence (fixedOf (r .answer) (r .sequence))
+abbrev pub resultMade : MadeSequence → Result ChannelSequence
+resultMade r = result zeroSequence (saidMade (r .answer) (r .sequence))

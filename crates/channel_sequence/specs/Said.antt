@@ -6,8 +6,8 @@ use Rattle.wire.specs.Answer.{Answer, answer, refusal}
 use Rattle.channel_sequence.specs.declared.channel_sequence.ChannelSequence.{ChannelSequence}
 use Rattle.channel_sequence.specs.declared.channel_sequence.Consistency.{Consistency}
 use Rattle.channel_sequence.specs.declared.channel_sequence.ReadSequence.{ReadSequence}
-use Rattle.channel_sequence.specs.declared.channel_sequence.Fixed.{Fixed}
-use Rattle.channel_sequence.specs.declared.channel_sequence.FixedSequence.{FixedSequence}
+use Rattle.channel_sequence.specs.declared.channel_sequence.Making.{Making}
+use Rattle.channel_sequence.specs.declared.channel_sequence.MadeSequence.{MadeSequence}
 use Rattle.channel_sequence.specs.declared.channel_sequence.Entry.{Entry}
 use Rattle.channel_sequence.specs.Sequences.{zeroSequence}
 use Rattle.channel_sequence.specs.Hops.{Hop, hop, nothing}
@@ -28,6 +28,6 @@ abbrev pub sequenceRead : Reading ChannelSequence → ReadSequence
 sequenceRead (read q next) = record { answer = Place.At next; sequence = q }
 sequenceRead (refused why) = record { answer = Place.Refused why; sequence = zeroSequence }
 
-abbrev pub sequenceFixed : Answer ChannelSequence → FixedSequence
-sequenceFixed (answer q) = record { answer = Fixed.Made; sequence = q }
-sequenceFixed (refusal why) = record { answer = Fixed.Refused why; sequence = zeroSequence }
+abbrev pub sequenceMade : Answer ChannelSequence → MadeSequence
+sequenceMade (answer q) = record { answer = Making.Made; sequence = q }
+sequenceMade (refusal why) = record { answer = Making.Refused why; sequence = zeroSequence }

@@ -1,10 +1,10 @@
--- The sequence of sixteen entries: when it is consistent, its size, its bytes, and one channel sixteen times.
+-- The sequence of sixteen entries: when it is consistent, its size, what is written of it, and one channel sixteen times.
 use Prim.Native.Nat.{ℕ, zero, suc, _-_, _*_}
-use mathlib.Core.Bool.{Bool, true, _&&_}
+use mathlib.Core.Bool.{Bool, true, not, _&&_}
 use mathlib.Core.List.{List, [], _∷_, _++_}
 use lib.Dec.{eqb, leb}
 use lib.ListN.{length, take, drop, replicate}
-use Rattle.wire.specs.declared.refusal.Refusal.the-variants.{Inconsistent}
+use Rattle.wire.specs.declared.refusal.Refusal.the-variants.{Inconsistent, LegacySequence}
 use Rattle.wire.specs.Answer.{Answer, answer, require, _>>=_, _>>_}
 use Rattle.channel.specs.declared.channel.Channel.{Channel}
 use Rattle.channel.specs.declared.channel.ChannelEncoding.{ChannelEncoding}
@@ -45,10 +45,15 @@ sizeOf q = do
   require (consistentBytes encoding (q .bytes)) Inconsistent
   answer (16 * entrySize encoding)
 
--- what is written: those of the 32 bytes that the encoding uses
+-- encoding 1, which is read and no longer written
+abbrev pub isLegacy : ChannelSequence → Bool
+isLegacy q = eqb (q .encoding) 1
+
+-- what is written, behind 5, 18 and 7: those of the 32 bytes that the encoding uses
 abbrev pub bytesOf : ChannelSequence → Answer (List ℕ)
 bytesOf q = do
   encoding ← encodingOf (q .encoding)
+  require (not (isLegacy q)) LegacySequence
   require (consistentBytes encoding (q .bytes)) Inconsistent
   answer (take (16 * entrySize encoding) (q .bytes))
 

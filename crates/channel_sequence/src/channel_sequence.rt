@@ -5,13 +5,15 @@ ghost use lib.ListN.{length, take, drop};
 ghost use Rattle.wire.specs.Reading as Reading;
 ghost use Rattle.wire.specs.Answer.{refusal};
 ghost use Rattle.wire.specs.Said.{saidSize};
-ghost use Rattle.wire.specs.Writing.{Wrote};
+ghost use Rattle.wire.specs.Writing.{lengthOf, Wrote};
 ghost use Rattle.channel.specs.Channels.{entrySize};
 ghost use Rattle.channel_sequence.specs.Sequences.{allZero, allFlagsFit, consistentBytes, consistent, sizeOf, bytesOf};
 ghost use Rattle.channel_sequence.specs.Sequences.{padded, times, entryOf, consistentEntry, fixed};
 ghost use Rattle.channel_sequence.specs.SequenceReader.{sequence, keptEntries, keptBytes};
+ghost use Rattle.channel_sequence.specs.Conversion.{toSimple};
 ghost use Rattle.channel_sequence.specs.Hops.{entryBytes, entryChannel, hopAt};
-ghost use Rattle.channel_sequence.specs.Said.{saidConsistent, saidEntry, sequenceRead, sequenceFixed};
+ghost use Rattle.channel_sequence.specs.Said.{saidConsistent, saidEntry, sequenceRead, sequenceMade};
+use crate::conversion::simple_of;
 use channel::Channel;
 use channel::ChannelEncoding;
 use channel::FoundEncoding;
@@ -32,13 +34,14 @@ pub struct ReadSequence {
     pub sequence: ChannelSequence,
 }
 
-pub enum Fixed {
+pub enum Making {
     Made,
     Refused(Refusal),
 }
 
-pub struct FixedSequence {
-    pub answer: Fixed,
+// A sequence that was made of something else, or why there is none; it is then the zero one.
+pub struct MadeSequence {
+    pub answer: Making,
     pub sequence: ChannelSequence,
 }
 
@@ -102,11 +105,21 @@ impl ChannelSequence {
         }
     }
 
+    // What a writer goes by, settled before its first byte. A legacy sequence has a size too, and is not written.
+    pub fn written_size(self) -> Size
+        ensures { λ r. ⌜ saidSize r ≡ lengthOf (bytesOf self) ⌝ }
+    {
+        if self.encoding == ChannelEncoding::LEGACY {
+            return Size::Refused(Refusal::LegacySequence);
+        }
+        self.size()
+    }
+
     pub fn write(self, buf: &mut [u8]) -> Size
         ensures { λ r. ⌜ Wrote (now (buf .entry)) (bytesOf self) (saidSize r) (now (buf .exit)) ⌝ }
     {
         let bytes = self.bytes;
-        match wire::within(buf.len(), self.size()) {
+        match wire::within(buf.len(), self.written_size()) {
             Size::Bytes(n) => {
                 wire::put_slice(buf, 0, &bytes[..n]);
                 Size::Bytes(n)
@@ -131,8 +144,8 @@ impl ChannelSequence {
     }
 
     // One channel sixteen times.
-    pub fn fixed_channel_sequence(channel: Channel) -> FixedSequence
-        ensures { λ r. ⌜ r ≡ sequenceFixed (fixed channel) ⌝ }
+    pub fn fixed_channel_sequence(channel: Channel) -> MadeSequence
+        ensures { λ r. ⌜ r ≡ sequenceMade (fixed channel) ⌝ }
     {
         let encoding = channel.encoding;
         let first = channel.first;
@@ -141,15 +154,28 @@ impl ChannelSequence {
             FoundEncoding::Known(known) => {
                 if consistent_entry(known, first, second) {
                     let bytes = repeated(known, first, second);
-                    return FixedSequence {
-                        answer: Fixed::Made,
+                    return MadeSequence {
+                        answer: Making::Made,
                         sequence: ChannelSequence { encoding, bytes },
                     };
                 }
-                not_fixed(Refusal::Inconsistent)
+                not_made(Refusal::Inconsistent)
             }
-            FoundEncoding::Refused(why) => not_fixed(why),
+            FoundEncoding::Refused(why) => not_made(why),
         }
+    }
+
+    // For a legacy sequence that is to be written: its channels, each moved to its primary one, as a simple sequence.
+    pub fn to_simple(self) -> MadeSequence
+        ensures { λ r. ⌜ r ≡ sequenceMade (toSimple self) ⌝ }
+    {
+        if self.encoding != ChannelEncoding::LEGACY {
+            return not_made(Refusal::Encoding);
+        }
+        if all_flags_fit(&self.bytes) {
+            return simple_of(&self.bytes);
+        }
+        not_made(Refusal::Inconsistent)
     }
 }
 
@@ -172,11 +198,11 @@ fn refused(why: Refusal) -> ReadSequence
     }
 }
 
-fn not_fixed(why: Refusal) -> FixedSequence
-    ensures { λ r. ⌜ r ≡ sequenceFixed (refusal why) ⌝ }
+pub(crate) fn not_made(why: Refusal) -> MadeSequence
+    ensures { λ r. ⌜ r ≡ sequenceMade (refusal why) ⌝ }
 {
-    FixedSequence {
-        answer: Fixed::Refused(why),
+    MadeSequence {
+        answer: Making::Refused(why),
         sequence: ChannelSequence {
             encoding: 0,
             bytes: [0; 32],

@@ -8,7 +8,6 @@ use Rattle.wire.specs.Answer.{asked, require}
 use Rattle.wire.proofs.Lawful.{require-lawful}
 use Rattle.wire.proofs.Gives.{gives-any}
 use Rattle.wire.proofs.Laid.{Laid, laid-asked, laid-bind, laid-last, laid-number}
-use Rattle.channel_sequence.specs.SequenceReader.{sequence}
 use Rattle.channel_sequence_tlv.specs.SequenceTLVReader.{channelSequence}
 use Rattle.channel_sequence_tlv.specs.FieldWidths.{fieldWidths}
 use Rattle.channel_sequence.proofs.Laid.{sequence-laid}

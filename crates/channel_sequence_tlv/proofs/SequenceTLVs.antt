@@ -14,11 +14,12 @@ use Rattle.wire.specs.declared.refusal.Refusal.{Refusal}
 use Rattle.wire.specs.declared.refusal.Refusal.the-variants.{Short, ChannelCount}
 use Rattle.wire.specs.Reading.{Reader, read, refused, give, field, onward, _>>=_}
 use Rattle.wire.specs.ShortFields.{firstShort}
-use Rattle.wire.specs.Answer.{answer, refusal, placeOf}
+use Rattle.wire.specs.Answer as A
+use Rattle.wire.specs.Answer.{Answer, answer, refusal, placeOf}
 use Rattle.wire.specs.Numbers.{AllInWidth, number}
 use Rattle.wire.specs.Writing.{lengthOf}
 use Rattle.wire.proofs.Bytes.{number-whole, unplaced}
-use Rattle.wire.proofs.Stores.{size-behind, length-behind}
+use Rattle.wire.proofs.Stores.{size-behind, length-behind, written-behind}
 use Rattle.wire.proofs.Lawful.{Lawful, never, steps, field-refused, bind-lawful, require-lawful, give-lawful}
 use Rattle.wire.proofs.Fixed.{past-short, Begins, begins-any, begins-number}
 use Rattle.wire.proofs.Octets.{Octets, octets-append, octets-take, octets-little}
@@ -33,8 +34,7 @@ use Rattle.channel_sequence.specs.SequenceReader.{sequence}
 use Rattle.channel_sequence_tlv.specs.SequenceTLVs.{consistent, sizeOf, headBytes, bytesOf, numbers}
 use Rattle.channel_sequence_tlv.specs.SequenceTLVReader.{channelSequence}
 use Rattle.channel_sequence_tlv.specs.FieldWidths.{headWidths}
-use Rattle.channel_sequence.proofs.Entries.{sequence-sized, size-most, wire-bytes}
-use Rattle.channel_sequence.proofs.Entries.{size-length as sequence-length}
+use Rattle.channel_sequence.proofs.Entries.{sequence-sized, size-most, sequence-written}
 use Rattle.channel_sequence.proofs.RoundTrip as Q′
 use Rattle.channel_sequence.proofs.RoundTrip.{sequence-lawful}
 
@@ -125,19 +125,31 @@ head-and-entries s at {c} {next} e = dite (decLe (at + 6) (length s)) there (λ 
     there : at + 6 ≤ length s → HeadAndEntries s at c next
     there h = go h (eqb (getD s at 0) 15) refl
 
--- a size that can be had: the entries that are put behind the six bytes are as many as it says
-pub record ChannelSequenceSized (c : ChannelSequenceTLV) (n : ℕ) : Type 0 where
+-- six bytes more are written than of the sequence
+pub length-written : (c : ChannelSequenceTLV) {size : Answer ℕ} → lengthOf (Q.bytesOf (c .«channel_sequence»)) ≡ size
+    → lengthOf (bytesOf c) ≡ A._>>=_ size (λ m. answer (6 + m))
+length-written c e = length-behind (headBytes c) (Q.bytesOf (c .«channel_sequence»)) e
+
+-- where so many bytes are written, the entries behind the six bytes are as many as that says
+pub record ChannelSequenceWritten (c : ChannelSequenceTLV) (n : ℕ) : Type 0 where
   pub head : 6 ≤ n
   pub few : n ≤ 38
   pub bytes : bytesOf c ≡ answer (headBytes c ++ take (n - 6) (c .«channel_sequence» .bytes))
 
-pub channel-sequence-sized : (c : ChannelSequenceTLV) {n : ℕ} → sizeOf c ≡ answer n → ChannelSequenceSized c n
-channel-sequence-sized c {n} e =
+pub channel-sequence-written : (c : ChannelSequenceTLV) → length (c .«channel_sequence» .bytes) ≡ 32 → {n : ℕ} → lengthOf (bytesOf c) ≡ answer n
+    → ChannelSequenceWritten c n
+channel-sequence-written c whole {n} e =
+    let behind = written-behind (headBytes c) (Q.bytesOf (c .«channel_sequence»)) e in
+    let w = sequence-written (c .«channel_sequence») whole (behind .1) in
+    let rest : n - 6 ≡ behind .0 = omega (arith, behind .2) in
+    record { head = omega (arith, behind .2); few = omega (arith, behind .2, w .few); bytes = rw (w .bytes, rest) }
+
+-- no size is above 38
+pub few-bytes : (c : ChannelSequenceTLV) {n : ℕ} → sizeOf c ≡ answer n → n ≤ 38
+few-bytes c e =
     let behind = size-behind 6 (Q.sizeOf (c .«channel_sequence»)) e in
     let w = sequence-sized (c .«channel_sequence») (behind .1) in
-    let most = size-most (w .encoding) in
-    let rest : n - 6 ≡ behind .0 = omega (arith, behind .2) in
-    record { head = omega (arith, behind .2); few = omega (arith, behind .2, w .size); bytes = rw (wire-bytes w, rest) }
+    omega (arith, behind .2, w .size, size-most (w .encoding))
 
 entries-size : (encoding : ChannelEncoding) {n : ℕ} → n ≡ 16 * entrySize encoding → (6 + n ≡ 22) ⊎ (6 + n ≡ 38)
 entries-size Simple e = inl (omega arith)
@@ -150,16 +162,19 @@ two-sizes c e =
     let w = sequence-sized (c .«channel_sequence») (behind .1) in
     rw (← behind .2) (entries-size (w .encoding) (w .size))
 
--- the size is the number of bytes that are written
-pub size-length : (c : ChannelSequenceTLV) → length (c .«channel_sequence» .bytes) ≡ 32 → lengthOf (bytesOf c) ≡ sizeOf c
-size-length c whole = length-behind (headBytes c) (Q.bytesOf (c .«channel_sequence»)) (sequence-length (c .«channel_sequence») whole)
+head-octets : (c : ChannelSequenceTLV) → Octets (headBytes c)
+head-octets c =
+    octets-append (octets-little 1 15)
+    (octets-append (octets-little 1 (c .«channel_sequence» .encoding))
+    (octets-append (octets-little 1 (c .«duplicate_count»)) (octets-append (octets-little 1 (c .«step_count»)) (octets-little 2 (c .«fill_channel»)))))
 
--- the bytes of a record: as many as its size says, and read back as the record
+-- the bytes of a record: as many as its size says, and read as the record; one with a legacy sequence is not written
 pub record ChannelSequenceFilled (c : ChannelSequenceTLV) : Type 0 where
   pub bytes : List ℕ
-  pub written : bytesOf c ≡ answer bytes
   pub size : sizeOf c ≡ answer (length bytes)
+  pub written : Q.isLegacy (c .«channel_sequence») ≡ false → bytesOf c ≡ answer bytes
   pub back : Back channelSequence bytes c
+  pub octets : Octets (c .«channel_sequence» .bytes) → Octets bytes
 
 pub round-trip : (c : ChannelSequenceTLV) → AllInWidth (numbers c) → length (c .«channel_sequence» .bytes) ≡ 32 → consistent c ≡ answer true
     → ChannelSequenceFilled c
@@ -171,20 +186,8 @@ round-trip c fit whole e =
     let entries : Unit {0} → Reader ChannelSequenceTLV = λ sixteen. sequence (c .«channel_sequence» .encoding) >>= λ q. give (made q) in
     record {
       bytes = headBytes c ++ w .bytes;
-      written = rw (w .written);
+      written = λ other. rw (w .written other);
       size = rw (w .size) (ap answer (sym (length-append (headBytes c) (w .bytes))));
       back = bind-back _ (number-back 1 15 (lit< tt)) (number-on 1 _ (number-on 1 _ (number-on 1 _ (number-on 2 _ (λ none. bind-back entries (asked-back {a = tt {0}} refl) (made-back made (w .back)))))) fit);
+      octets = λ entries. octets-append (head-octets c) (rw (w .front) (octets-take (length (w .bytes)) entries));
     }
-
-head-octets : (c : ChannelSequenceTLV) → Octets (headBytes c)
-head-octets c =
-    octets-append (octets-little 1 15)
-    (octets-append (octets-little 1 (c .«channel_sequence» .encoding))
-    (octets-append (octets-little 1 (c .«duplicate_count»)) (octets-append (octets-little 1 (c .«step_count»)) (octets-little 2 (c .«fill_channel»)))))
-
-pub filled-octets : {c : ChannelSequenceTLV} (w : ChannelSequenceFilled c) → Octets (c .«channel_sequence» .bytes) → Octets (w .bytes)
-filled-octets {c} w entries =
-    let z = channel-sequence-sized c (w .size) in
-    let all : List ℕ = headBytes c ++ take (length (w .bytes) - 6) (c .«channel_sequence» .bytes) in
-    let same : all ≡ w .bytes = cc (z .bytes, w .written) in
-    rw (← same) (octets-append (head-octets c) (octets-take (length (w .bytes) - 6) entries))

@@ -3,7 +3,7 @@ ghost use Prim.Native.Nat.{_+_, _≤_};
 ghost use lib.ListN.{length, getD};
 ghost use Rattle.wire.specs.Reading as Reading;
 ghost use Rattle.wire.specs.Said.{saidSize};
-ghost use Rattle.wire.specs.Writing.{Wrote};
+ghost use Rattle.wire.specs.Writing.{lengthOf, Wrote};
 ghost use Rattle.channel_sequence_tlv.specs.SequenceTLVs.{consistent, sizeOf, headBytes, bytesOf};
 ghost use Rattle.channel_sequence_tlv.specs.SequenceTLVReader.{channelSequence};
 ghost use Rattle.channel_sequence.specs.Said.{saidConsistent};
@@ -78,6 +78,16 @@ impl ChannelSequenceTLV {
         }
     }
 
+    // What a writer goes by, settled before its first byte. A record with a legacy sequence has a size too, and is not written.
+    pub fn written_size(self) -> Size
+        ensures { λ r. ⌜ saidSize r ≡ lengthOf (bytesOf self) ⌝ }
+    {
+        match self.channel_sequence.written_size() {
+            Size::Bytes(n) => Size::Bytes(HEAD_SIZE + n),
+            Size::Refused(why) => Size::Refused(why),
+        }
+    }
+
     // The bytes in front of the entries, for a writer that has asked the size.
     pub fn head(self) -> [u8; 6]
         ensures { λ r. ⌜ r ≡ headBytes self ⌝ }
@@ -100,7 +110,7 @@ impl ChannelSequenceTLV {
         let head = self.head();
         let sequence = self.channel_sequence;
         let entries = sequence.bytes;
-        match wire::within(buf.len(), self.size()) {
+        match wire::within(buf.len(), self.written_size()) {
             Size::Bytes(n) => {
                 wire::put_slice(buf, 0, &head);
                 wire::put_slice(buf, HEAD_SIZE, &entries[..n - HEAD_SIZE]);

@@ -97,7 +97,7 @@ sequences-run =
       others = zeroSequence ∷ [];
       another = record { encoding = 3; bytes = replicate 32 0 };
       differ = λ e. let z : _≡_ {A = ℕ} 0 3 = ap (λ (q : ChannelSequence). q .encoding) e in omega arith;
-      all-consistent = ((refl, refl), ((refl, refl), ((refl, refl), tt)));
+      all-consistent = ((refl, refl, refl), ((refl, refl, refl), ((refl, refl, refl), tt)));
       bytes = replicate 16 0;
       behind = replicate 16 0;
       first-written = refl;

@@ -30,13 +30,13 @@ use Rattle.action_frame.specs.Said.{saidFrame}
 use Rattle.action_frame.proofs.Laid.{header-laid}
 use Rattle.action_frame.proofs.Once.{onceFrame}
 use Rattle.promises.proofs.InFrames.{short-in-frame}
-use Rattle.promises.proofs.Refusing.{number-range, numbers-apart, reader-offset, call-offset, reader-answers, call-answers, refused-buffer, short-buffer}
+use Rattle.promises.proofs.Refusing.{numbers-exactly, numbers-apart, reader-offset, call-offset, reader-answers, call-answers, refused-buffer, short-buffer}
 use Rattle.promises.specs.Demand1.{Demand1}
 
 pub demand1 : Demand1
 demand1 =
     record {
-      numbers = number-range;
+      numbers = numbers-exactly;
       apart = numbers-apart;
       reader-offsets = reader-offset;
       call-offsets = call-offset;
@@ -66,7 +66,7 @@ demand1 =
       consistency = call-answers saidConsistent false (λ a b e. onceConsistent e refl);
       entry = call-answers saidEntry (hop zeroChannel) (λ a b e. onceEntry e refl);
       sequence = λ at. record { refuses = λ why. refl; zero = λ why. refl };
-      fixed = record { refuses = λ why. refl; zero = λ why. refl };
+      made = record { refuses = λ why. refl; zero = λ why. refl };
       head = reader-answers saidHead zeroHead 0 (λ a b e. onceHead e refl);
       body = λ at. reader-answers saidBody zeroBody at (λ a b e. onceBody e refl);
       data-path = reader-answers saidDataPath zeroDataPath 0 (λ a b e. onceDataPath e refl);

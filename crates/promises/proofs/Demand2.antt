@@ -24,6 +24,8 @@ use Rattle.action_frame.proofs.Gaps.{gap-exactly, gap-same}
 use Rattle.report.proofs.Report.{gives-dump, gives-once}
 use Rattle.promises.specs.Demand2.{Demand2}
 use Rattle.promises.proofs.RoundTrips.{sequence-round, channel-sequence-round, data-path-round, synchronization-round, item-round, frame-round, tail-round}
+use Rattle.promises.proofs.Conversions.{sequence-not-written, channel-sequence-not-written, synchronization-not-written}
+use Rattle.promises.proofs.Conversions.{exactly-convertible, conversion, channel-sequence-converted, synchronization-converted}
 use Rattle.promises.proofs.EndToEnd.{end-to-end, run-together}
 use Rattle.promises.proofs.Archives.{data-path-archive, channel-sequence-archive, synchronization-archive, item-archive, sequence-archive}
 use Rattle.promises.proofs.Archives.{sequences-run, frames-run, unchecked-run, unmended-run}
@@ -50,7 +52,15 @@ demand2 =
       presence = λ k w. sym (has-bit k w refl);
       gaps = gap-exactly;
       gaps-same = gap-same;
+      legacy-sequences = sequence-not-written;
+      legacy-channel-sequences = channel-sequence-not-written;
+      legacy-synchronizations = synchronization-not-written;
+      convertible = exactly-convertible;
+      converted = λ q fits e. conversion q (fits .many) fits e;
+      channel-sequences-converted = λ s b at e made. channel-sequence-converted s b at e made;
+      synchronizations-converted = λ s b at e made. synchronization-converted s b at e made;
       sequences-consistent = λ encoding s at e. Q.read-consistent encoding s at e;
+      sequences-in-width = λ encoding h s b at e. Q.read-in-width encoding h s (record { small = b }) at e;
       channel-sequences-consistent = λ s at e. C.read-consistent s at e;
       channel-sequences-in-width = λ s b at e. C.read-in-width s b at e;
       data-paths-consistent = λ s at e. D.read-consistent s at e;
@@ -58,10 +68,10 @@ demand2 =
       synchronizations-consistent = λ s e. S.read-consistent s e;
       synchronizations-in-width = λ s b at e. S.read-in-width s b at e;
       headers-consistent = λ s b at e. F.read-in-width s b at e;
-      sequences-again = λ encoding s at e. Q′.written-again encoding s at e;
-      channel-sequences-again = λ s b at e. C.written-again s b at e;
+      sequences-again = λ encoding s at e other. Q′.written-again encoding s at e other;
+      channel-sequences-again = λ s b at e other. C.written-again s b at e other;
+      synchronizations-again = λ s b e other. S.written-again s b e other;
       data-paths-again = λ s b at e. D′.written-again s b at e;
-      synchronizations-again = λ s b e. S.written-again s b e;
       headers-again = λ s b at e. F.written-again s b at e;
       frames-again = λ s b e. F.frame-again s b e;
       fixed-again = λ s b e. S.fixed-again s b e;

@@ -12,7 +12,7 @@ use Rattle.wire.specs.Numbers.{number, littleBytes}
 use Rattle.wire.specs.Words.{wordBy}
 use Rattle.wire.specs.Addresses.{address, addressBytes}
 use Rattle.wire.specs.Parts.{partAt}
-use Rattle.wire.specs.Writing.{within, Put, Wrote}
+use Rattle.wire.specs.Writing.{within, lengthOf, Put, Wrote}
 use Rattle.wire.specs.Said.{saidU8, saidU16, saidU32, saidAddress, saidPlace, saidSize}
 use Rattle.text.specs.Text.{decimal, hex}
 use Rattle.text.specs.Words.{says, decimalOf, hexOf}
@@ -22,10 +22,11 @@ use Rattle.channel.specs.Channels.{encodingOf, entrySize, sizeOfEncoding, keptF
 use Rattle.channel_sequence.specs.Sequences as Q
 use Rattle.channel_sequence.specs.SequenceReader.{sequence}
 use Rattle.channel_sequence.specs.Hops.{hopAt}
+use Rattle.channel_sequence.specs.Conversion.{toSimple}
 use Rattle.channel_sequence_tlv.specs.SequenceTLVs as C
 use Rattle.channel_sequence_tlv.specs.SequenceTLVReader.{channelSequence}
 use Rattle.channel.specs.Said.{saidEncoding, saidCorrected}
-use Rattle.channel_sequence.specs.Said.{saidConsistent, saidEntry, sequenceRead, sequenceFixed}
+use Rattle.channel_sequence.specs.Said.{saidConsistent, saidEntry, sequenceRead, sequenceMade}
 use Rattle.channel_sequence_tlv.specs.Said.{channelSequenceRead}
 use Rattle.data_path_words.specs.Words.{hasAny, extendedKept, optionsKept, channelOf, wordOf}
 use Rattle.data_path_fields.specs.Fields.{head, body}
@@ -147,9 +148,13 @@ pub record EveryCall : Type 2 where
   pub sequence-consistent : Call sequences.consistent.Symbol.routine sequences.consistent.ended
       (λ κs a r e. saidConsistent r ≡ Q.consistent (a .0))
   pub sequence-fixed-channel-sequence : Call sequences.fixed_channel_sequence.Symbol.routine sequences.fixed_channel_sequence.ended
-      (λ κs a r e. r ≡ sequenceFixed (Q.fixed (a .0)))
+      (λ κs a r e. r ≡ sequenceMade (Q.fixed (a .0)))
+  pub sequence-to-simple : Call sequences.to_simple.Symbol.routine sequences.to_simple.ended
+      (λ κs a r e. r ≡ sequenceMade (toSimple (a .0)))
   pub sequence-size : Call sequences.size.Symbol.routine sequences.size.ended
       (λ κs a r e. saidSize r ≡ Q.sizeOf (a .0))
+  pub sequence-written-size : Call sequences.written_size.Symbol.routine sequences.written_size.ended
+      (λ κs a r e. saidSize r ≡ lengthOf (Q.bytesOf (a .0)))
   pub sequence-entry : Call sequences.entry.Symbol.routine sequences.entry.ended
       (λ κs a r e. saidEntry r ≡ hopAt (a .0) (a .1 .0))
   pub sequence-write : Call sequences.write.Symbol.routine sequences.write.ended
@@ -164,6 +169,8 @@ pub record EveryCall : Type 2 where
       (λ κs a r e. Wrote (now (a .1 .0)) (C.bytesOf (a .0)) (saidSize r) (now (e .1 .0)))
   pub channel-sequence-size : Call channel-sequences.size.Symbol.routine channel-sequences.size.ended
       (λ κs a r e. saidSize r ≡ C.sizeOf (a .0))
+  pub channel-sequence-written-size : Call channel-sequences.written_size.Symbol.routine channel-sequences.written_size.ended
+      (λ κs a r e. saidSize r ≡ lengthOf (C.bytesOf (a .0)))
   -- data path records and their words
   pub data-path-read : Call data-paths.read.Symbol.routine data-paths.read.ended
       (λ κs a r e. saidDataPath r ≡ dataPath (now (a .0)) 0)
@@ -196,6 +203,8 @@ pub record EveryCall : Type 2 where
       (λ κs a r e. saidConsistent r ≡ S.consistent (a .0))
   pub synchronization-size : Call synchronizations.size.Symbol.routine synchronizations.size.ended
       (λ κs a r e. saidSize r ≡ S.sizeOf (a .0))
+  pub synchronization-written-size : Call synchronizations.written_size.Symbol.routine synchronizations.written_size.ended
+      (λ κs a r e. saidSize r ≡ lengthOf (S.bytesOf (a .0)))
   pub synchronization-write : Call synchronizations.write.Symbol.routine synchronizations.write.ended
       (λ κs a r e. Wrote (now (a .1 .0)) (S.bytesOf (a .0)) (saidSize r) (now (e .1 .0)))
   -- items: a step of the walk, an item's value, the end report, the search for the records of a type, the writer
@@ -288,7 +297,9 @@ every-call =
       sequence-read = λ M. sequences.read.Met.met;
       sequence-consistent = λ M. sequences.consistent.Met.met;
       sequence-fixed-channel-sequence = λ M. sequences.fixed_channel_sequence.Met.met;
+      sequence-to-simple = λ M. sequences.to_simple.Met.met;
       sequence-size = λ M. sequences.size.Met.met;
+      sequence-written-size = λ M. sequences.written_size.Met.met;
       sequence-entry = λ M. sequences.entry.Met.met;
       sequence-write = λ M. sequences.write.Met.met;
       channel-sequence-read = λ M. channel-sequences.read.Met.met;
@@ -296,6 +307,7 @@ every-call =
       channel-sequence-head = λ M. channel-sequences.head.Met.met;
       channel-sequence-write = λ M. channel-sequences.write.Met.met;
       channel-sequence-size = λ M. channel-sequences.size.Met.met;
+      channel-sequence-written-size = λ M. channel-sequences.written_size.Met.met;
       data-path-read = λ M. data-paths.read.Met.met;
       data-path-consistent = λ M. data-paths.consistent.Met.met;
       data-path-size = λ M. data-paths.size.Met.met;
@@ -311,6 +323,7 @@ every-call =
       synchronization-read = λ M. synchronizations.read.Met.met;
       synchronization-consistent = λ M. synchronizations.consistent.Met.met;
       synchronization-size = λ M. synchronizations.size.Met.met;
+      synchronization-written-size = λ M. synchronizations.written_size.Met.met;
       synchronization-write = λ M. synchronizations.write.Met.met;
       step = λ M. items.step.Met.met;
       step-with-value = λ M. tlvs.step_with_value.Met.met;

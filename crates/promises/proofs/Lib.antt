@@ -9,6 +9,7 @@ pub mod Refusing
 pub mod InFrames
 pub mod Demand1
 pub mod RoundTrips
+pub mod Conversions
 pub mod EndToEnd
 pub mod Archives
 pub mod Demand2

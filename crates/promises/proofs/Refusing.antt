@@ -1,14 +1,14 @@
 -- What a refusal stands for follows from what the answer says, for every answer; a buffer is touched only where nothing is refused.
 -- Assumes nothing.
-use Prim.Native.Nat.{ℕ, _≤_}
+use Prim.Native.Nat.{ℕ, zero, suc, _≤_}
 use native.Mathlib.Omega.{arith}
 use mathlib.Core.Path.{_≡_, refl, sym, ap, _∙_}
 use mathlib.Core.Bool.{false, cond}
 use mathlib.Core.List.{List}
-use mathlib.Core.Logic.{_⊎_, inl, inr}
+use mathlib.Core.Logic.{_↔_, _⊎_, inl, inr}
 use lib.Dec.{eqb}
 use Rattle.wire.specs.declared.refusal.Refusal.{Refusal}
-use Rattle.wire.specs.declared.refusal.Refusal.the-variants.{Short, NotAction, NotVersion, UnicastLength, Encoding, NoRoom, Inconsistent, TooLong, ChannelCount}
+use Rattle.wire.specs.declared.refusal.Refusal.the-variants.{Short, NotAction, NotVersion, UnicastLength, Encoding, NoRoom, Inconsistent, TooLong, ChannelCount, LegacySequence, CorrectedChannel}
 use Rattle.wire.specs.Refusals.{numberOf, offsetOf}
 use Rattle.wire.specs.Reading.{Reading, read, refused}
 use Rattle.wire.specs.Answer.{Answer, answer, refusal}
@@ -17,7 +17,11 @@ use Rattle.wire.specs.Writing.{fits, Put, afterwards, Wrote}
 use Rattle.wire.proofs.Once.{only-one}
 use Rattle.promises.specs.Answers.{refusedOutcome, refusedResult, Once, Answering}
 
-pub number-range : (why : Refusal) → ((1 ≤ numberOf why) × (numberOf why ≤ 8)) ⊎ (numberOf why ≡ 10)
+-- the numbers that refusals have
+abbrev Given : ℕ → Type 0
+Given n = ((1 ≤ n) × (n ≤ 8)) ⊎ ((n ≡ 10) ⊎ ((n ≡ 18) ⊎ (n ≡ 19)))
+
+number-range : (why : Refusal) → Given (numberOf why)
 number-range (Short at) = inl (omega arith)
 number-range NotAction = inl (omega arith)
 number-range NotVersion = inl (omega arith)
@@ -26,7 +30,30 @@ number-range Encoding = inl (omega arith)
 number-range NoRoom = inl (omega arith)
 number-range Inconsistent = inl (omega arith)
 number-range TooLong = inl (omega arith)
-number-range ChannelCount = inr refl
+number-range ChannelCount = inr (inl refl)
+number-range LegacySequence = inr (inr (inl refl))
+number-range CorrectedChannel = inr (inr (inr refl))
+
+first-eight : (n : ℕ) → 1 ≤ n → n ≤ 8 → (why : Refusal) × (numberOf why ≡ n)
+first-eight zero low high = absurd (omega arith)
+first-eight (suc zero) low high = (Short 0, refl)
+first-eight (suc (suc zero)) low high = (NotAction, refl)
+first-eight (suc (suc (suc zero))) low high = (NotVersion, refl)
+first-eight (suc (suc (suc (suc zero)))) low high = (UnicastLength, refl)
+first-eight (suc (suc (suc (suc (suc zero))))) low high = (Encoding, refl)
+first-eight (suc (suc (suc (suc (suc (suc zero)))))) low high = (NoRoom, refl)
+first-eight (suc (suc (suc (suc (suc (suc (suc zero))))))) low high = (Inconsistent, refl)
+first-eight (suc (suc (suc (suc (suc (suc (suc (suc zero)))))))) low high = (TooLong, refl)
+first-eight (suc (suc (suc (suc (suc (suc (suc (suc (suc n))))))))) low high = absurd (omega arith)
+
+number-given : (n : ℕ) → Given n → (why : Refusal) × (numberOf why ≡ n)
+number-given n (inl (low, high)) = first-eight n low high
+number-given n (inr (inl e)) = (ChannelCount, sym e)
+number-given n (inr (inr (inl e))) = (LegacySequence, sym e)
+number-given n (inr (inr (inr e))) = (CorrectedChannel, sym e)
+
+pub numbers-exactly : (n : ℕ) → ((why : Refusal) × (numberOf why ≡ n)) ↔ Given n
+numbers-exactly n = (λ has. rw (← has .1) (number-range (has .0)), number-given n)
 
 -- the refusal that has a number and an offset
 abbrev numbered : ℕ × ℕ → Refusal
@@ -38,7 +65,9 @@ numbered (n, at) =
     (cond (eqb n 5) Encoding
     (cond (eqb n 6) NoRoom
     (cond (eqb n 7) Inconsistent
-    (cond (eqb n 8) TooLong ChannelCount)))))))
+    (cond (eqb n 8) TooLong
+    (cond (eqb n 10) ChannelCount
+    (cond (eqb n 18) LegacySequence CorrectedChannel)))))))))
 
 abbrev numberAndOffset : Refusal → ℕ × ℕ
 numberAndOffset why = (numberOf why, offsetOf why)
@@ -56,6 +85,8 @@ numbers-apart why other e f = only-one numberAndOffset numbered back (rw (e, f))
     back Inconsistent = refl
     back TooLong = refl
     back ChannelCount = refl
+    back LegacySequence = refl
+    back CorrectedChannel = refl
 
 no-offset : (why : Refusal) → ¬ (numberOf why ≡ 1) → offsetOf why ≡ 0
 no-offset (Short at) other = absurd (other refl)
@@ -67,6 +98,8 @@ no-offset NoRoom other = refl
 no-offset Inconsistent other = refl
 no-offset TooLong other = refl
 no-offset ChannelCount other = refl
+no-offset LegacySequence other = refl
+no-offset CorrectedChannel other = refl
 
 pub reader-offset : {A : Type 0} (nothing : A) (at : ℕ) (r : Reading A) → ¬ (outcome nothing at r .number ≡ 1) → outcome nothing at r .offset ≡ 0
 reader-offset nothing at (read a next) other = refl

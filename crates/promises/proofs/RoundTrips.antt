@@ -49,7 +49,7 @@ start : {A : Type 0} {r : Reader A} {bytes : List ℕ} {a : A} → Back r bytes 
 start {bytes = bytes} {a = a} b behind = b .back [] behind ∙ ap (read a) (zero-add (length bytes))
 
 pub sequence-round : RoundTrip sequences
-sequence-round q ok = let w = Q.round-trip q (ok .0) (ok .1) in fills sequences q (w .bytes) (w .written) (w .size) (start (w .back))
+sequence-round q ok = let w = Q.round-trip q (ok .0) (ok .1) in fills sequences q (w .bytes) (w .written (ok .2)) (w .size) (start (w .back))
 
 pub sequence-in-round : (encoding : ℕ) → RoundTrip (sequencesIn encoding)
 sequence-in-round encoding q ok =
@@ -59,7 +59,7 @@ sequence-in-round encoding q ok =
 pub channel-sequence-round : RoundTrip channelSequences
 channel-sequence-round c ok =
     let w = C.round-trip c (ok .0) (ok .1) (ok .2) in
-    fills channelSequences c (w .bytes) (w .written) (w .size) (start (w .back))
+    fills channelSequences c (w .bytes) (w .written (ok .3)) (w .size) (start (w .back))
 
 pub data-path-round : RoundTrip dataPaths
 data-path-round r ok =
@@ -68,7 +68,7 @@ data-path-round r ok =
 pub synchronization-round : RoundTrip synchronizations
 synchronization-round p ok =
     let w = S.round-trip p (ok .0) (ok .1) (ok .2) in
-    fills synchronizations p (w .bytes) (w .written) (w .size) (start (w .back))
+    fills synchronizations p (w .bytes) (w .written (ok .3)) (w .size) (start (w .back))
 
 pub item-round : RoundTrip items
 item-round it ok =

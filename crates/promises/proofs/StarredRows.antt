@@ -10,7 +10,7 @@ use Rattle.tlv_items.specs.Walk.{walkFrom}
 use Rattle.action_frame.specs.Frames.{headerBytes}
 use Rattle.synchronization_parameters.specs.SynchronizationReader.{synchronization}
 use Rattle.synchronization_parameters.specs.SynchronizationBytes.{fixedBytes}
-use Rattle.promises.specs.Rows.{AllHold, rows, reservedRows}
+use Rattle.promises.specs.Rows.{AllHold, rows, reservedRows, legacyRows}
 
 pub starred-rows : AllHold rows
 unfolding rows encodingOf consistent recordBytes stepAt walkFrom
@@ -19,3 +19,7 @@ starred-rows = (refl, (refl, (refl, (refl, (refl, (refl, (refl, (refl, (refl, (r
 pub reserved-rows : AllHold reservedRows
 unfolding reservedRows encodingOf consistent recordBytes headerBytes synchronization fixedBytes channelSequence
 reserved-rows = (refl, (refl, (refl, (refl, (refl, (refl, tt))))))
+
+pub legacy-rows : AllHold legacyRows
+unfolding legacyRows encodingOf synchronization fixedBytes channelSequence
+legacy-rows = (refl, (refl, (refl, (refl, (refl, (refl, (refl, (refl, (refl, (refl, (refl, (refl, (refl, (refl, (refl, (refl, (refl, (refl, (refl, (refl, (refl, (refl, (refl, (refl, (refl, (refl, (refl, (refl, (refl, (refl, (refl, (refl, (refl, (refl, (refl, (refl, (refl, (refl, (refl, (refl, (refl, (refl, (refl, (refl, (refl, (refl, (refl, (refl, tt))))))))))))))))))))))))))))))))))))))))))))))))

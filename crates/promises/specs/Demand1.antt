@@ -4,7 +4,7 @@ use Prim.Native.Nat.{ℕ, _+_, _≤_, _<_}
 use mathlib.Core.Path.{_≡_}
 use mathlib.Core.Bool.{Bool, false}
 use mathlib.Core.List.{List, _++_}
-use mathlib.Core.Logic.{_⊎_}
+use mathlib.Core.Logic.{_↔_, _⊎_}
 use lib.ListN.{length}
 use Rattle.wire.specs.declared.refusal.Refusal.{Refusal}
 use Rattle.wire.specs.declared.refusal.Refusal.the-variants.{Short}
@@ -29,10 +29,10 @@ use Rattle.channel_sequence_tlv.specs.SequenceTLVs.{zeroChannelSequence}
 use Rattle.channel_sequence_tlv.specs.SequenceTLVReader.{channelSequence}
 use Rattle.channel_sequence_tlv.specs.FieldWidths.{headWidths}
 use Rattle.channel.specs.Said.{saidEncoding, saidCorrected}
-use Rattle.channel_sequence.specs.Said.{saidConsistent, saidEntry, sequenceRead, sequenceFixed}
+use Rattle.channel_sequence.specs.Said.{saidConsistent, saidEntry, sequenceRead, sequenceMade}
 use Rattle.channel_sequence_tlv.specs.Said.{channelSequenceRead}
 use Rattle.channel.specs.Outcomes.{resultEncoding, resultCorrected}
-use Rattle.channel_sequence.specs.Outcomes.{resultConsistent, resultEntry, outcomeSequence, resultFixed}
+use Rattle.channel_sequence.specs.Outcomes.{resultConsistent, resultEntry, outcomeSequence, resultMade}
 use Rattle.channel_sequence_tlv.specs.Outcomes.{outcomeChannelSequence}
 use Rattle.data_path_fields.specs.Fields.{head, body}
 use Rattle.data_path_fields.specs.Said.{saidHead, saidBody}
@@ -52,8 +52,8 @@ use Rattle.action_frame.specs.Outcomes.{outcomeFrame}
 use Rattle.promises.specs.Answers.{refusedOutcome, refusedResult, Once, Answering, HeldBeside, ShortInFrame}
 
 pub record Demand1 : Type 1 where
-  -- a refusal's number is one of 1 to 8 or 10; 9 is given to none. Its number and its offset tell which refusal it is
-  pub numbers : (why : Refusal) → ((1 ≤ numberOf why) × (numberOf why ≤ 8)) ⊎ (numberOf why ≡ 10)
+  -- the numbers of refusals are 1 to 8, 10, 18 and 19: no refusal has another, and each of these is the number of one; number and offset tell which refusal it is
+  pub numbers : (n : ℕ) → ((why : Refusal) × (numberOf why ≡ n)) ↔ (((1 ≤ n) × (n ≤ 8)) ⊎ ((n ≡ 10) ⊎ ((n ≡ 18) ⊎ (n ≡ 19))))
   pub apart : (why other : Refusal) → numberOf why ≡ numberOf other → offsetOf why ≡ offsetOf other → why ≡ other
   -- whatever does not stand for the number 1, a success too, stands for the offset 0
   pub reader-offsets : {A : Type 0} (nothing : A) (at : ℕ) (r : Reading A) → ¬ (outcome nothing at r .number ≡ 1) → outcome nothing at r .offset ≡ 0
@@ -92,7 +92,7 @@ pub record Demand1 : Type 1 where
   pub consistency : Answering saidConsistent refusal resultConsistent (refusedResult false)
   pub entry : Answering saidEntry refusal resultEntry (refusedResult (hop zeroChannel))
   pub sequence : (at : ℕ) → HeldBeside sequenceRead refused (outcomeSequence at) (refusedOutcome zeroSequence) (λ r. r .sequence) zeroSequence
-  pub fixed : HeldBeside sequenceFixed refusal resultFixed (refusedResult zeroSequence) (λ r. r .sequence) zeroSequence
+  pub made : HeldBeside sequenceMade refusal resultMade (refusedResult zeroSequence) (λ r. r .sequence) zeroSequence
   -- of the three records and the header, and of the two parts in which a data path record is read
   pub head : Answering saidHead refused outcomeHead (refusedOutcome zeroHead)
   pub body : (at : ℕ) → Answering saidBody refused (outcomeBody at) (refusedOutcome zeroBody)

@@ -2,7 +2,7 @@
 -- every input, is `EveryCall` in `proofs/`, since it names the code; this is what is said of the definitions.
 use Prim.Native.Nat.{ℕ, _+_, _-_, _%_, _^_, _≤_, _<_}
 use mathlib.Core.Path.{_≡_}
-use mathlib.Core.Bool.{true}
+use mathlib.Core.Bool.{true, false}
 use mathlib.Core.List.{List}
 use mathlib.Core.Logic.{_↔_, _⊎_}
 use lib.Bits.{bitAnd}
@@ -10,7 +10,8 @@ use lib.ListN.{length, take}
 use Rattle.wire.specs.Reading.{Reader, read}
 use Rattle.wire.specs.FromBytes.{ReadFromBytes}
 use Rattle.wire.specs.Answer.{answer}
-use Rattle.wire.specs.Numbers.{AllInWidth, bit}
+use Rattle.wire.specs.Parts.{between}
+use Rattle.wire.specs.Numbers.{bit}
 use Rattle.wire.specs.Words.{wordBy}
 use Rattle.channel_sequence.specs.declared.channel_sequence.ChannelSequence.{ChannelSequence}
 use Rattle.channel.specs.Channels.{keptFlags}
@@ -21,8 +22,8 @@ use Rattle.channel_sequence_tlv.specs.SequenceTLVs as C
 use Rattle.channel_sequence_tlv.specs.SequenceTLVReader.{channelSequence}
 use Rattle.channel_sequence.specs.Widths.{SequenceInWidth}
 use Rattle.channel_sequence_tlv.specs.Widths.{ChannelSequenceInWidth}
-use Rattle.channel_sequence.specs.Rewritten as Q′
-use Rattle.channel_sequence_tlv.specs.Rewritten.{rewrittenChannelSequence}
+use Rattle.channel_sequence.specs.Sequences.{isLegacy}
+use Rattle.channel_sequence.specs.Conversion.{toSimple}
 use Rattle.data_path_words.specs.Words.{hasAny, extendedKept, optionsKept}
 use Rattle.data_path_words.specs.Names.{MakeUp, flagNames, extendedNames, channelNames, optionNames}
 use Rattle.data_path_state.specs.declared.data_path_state_tlv.DataPathStateTLV.{DataPathStateTLV}
@@ -36,7 +37,6 @@ use Rattle.synchronization_parameters.specs.declared.synchronization_parameters
 use Rattle.synchronization_parameters.specs.SynchronizationReader.{synchronization}
 use Rattle.synchronization_parameters.specs.SynchronizationBytes as S
 use Rattle.synchronization_parameters.specs.Widths.{SynchronizationInWidth}
-use Rattle.synchronization_parameters.specs.Rewritten as S′
 use Rattle.tlv_items.specs.declared.item.Item.{Item}
 use Rattle.tlv_items.specs.Walk.{Ending, whole, walk, GivesItems}
 use Rattle.tlvs.specs.Search.{Match, allOf, nextFrom, GivesRecords}
@@ -51,11 +51,13 @@ use Rattle.action_frame.specs.Stamps.{delta}
 use Rattle.report.specs.Lines.{dumpLines}
 use Rattle.report.specs.Marks.{firstMark, GivesLines}
 use Rattle.promises.specs.Formats as formats
-use Rattle.promises.specs.Formats.{Bytes, Format, RoundTrip}
+use Rattle.promises.specs.Formats.{Bytes, Format, Fills, RoundTrip}
+use Rattle.promises.specs.Legacy.{NotWritten, withSequence, withItsSequence, Convertible, Converted}
 use Rattle.promises.specs.EndToEnd.{BeginsNoOther, ToldByBytes, AllArchived, EndToEnd, OneReading, RunTogether, uncheckedDataPaths, unmendedDataPaths}
 
 pub record Demand2 : Type 1 where
-  -- a consistent record that is written into enough room fills exactly its size, and reads back as itself
+  -- a consistent record that is written into enough room fills exactly its size, and reads back as itself; a sequence, and a record that holds one, where
+  -- it is no legacy one
   pub sequences : RoundTrip formats.sequences
   pub channel-sequences : RoundTrip formats.channelSequences
   pub data-paths : RoundTrip formats.dataPaths
@@ -82,35 +84,51 @@ pub record Demand2 : Type 1 where
   pub gaps : (phy : PhyTxTime) (target : TargetTxTime) → phy .0 < 2 ^ 32 → target .0 < 2 ^ 32 → (gap : ℕ)
       → (gap ≡ delta phy target) ↔ ((gap < 2 ^ 32) × ((target .0 + gap) % 2 ^ 32 ≡ phy .0))
   pub gaps-same : (phy : PhyTxTime) (target : TargetTxTime) → phy .0 < 2 ^ 32 → target .0 ≤ phy .0 → delta phy target ≡ phy .0 - target .0
-  -- what was read is consistent and, of bytes, within its widths, so that it can be written again and read back; a header need
-  -- only be within its widths
+  -- a legacy sequence is not written, nor is a record that holds one, whatever else is wrong with it and whatever the room
+  pub legacy-sequences : (q : ChannelSequence) → isLegacy q ≡ true → NotWritten formats.sequences q
+  pub legacy-channel-sequences : (c : ChannelSequenceTLV) → isLegacy (c .«channel_sequence») ≡ true → NotWritten formats.channelSequences c
+  pub legacy-synchronizations : (p : SynchronizationParametersTLV) → isLegacy (p .«channel_sequence» .«channel_sequence») ≡ true
+      → NotWritten formats.synchronizations p
+  -- it is converted exactly where it is consistent and the correction of none of its entries leaves 0 to 255; what it is converted to can be written, and so
+  -- can a record that was read with it, when that stands in its place
+  pub convertible : (q : ChannelSequence) → length (q .bytes) ≡ 32 → ((simple : ChannelSequence) × (toSimple q ≡ answer simple)) ↔ Convertible q
+  pub converted : (q : ChannelSequence) → SequenceInWidth q → {simple : ChannelSequence} → toSimple q ≡ answer simple → Converted q simple
+  pub channel-sequences-converted : (s : List ℕ) → Bytes s → (at : ℕ) {next : ℕ} {c : ChannelSequenceTLV} → channelSequence s at ≡ read c next
+      → {simple : ChannelSequence} → toSimple (c .«channel_sequence») ≡ answer simple → Fills formats.channelSequences (withSequence c simple)
+  pub synchronizations-converted : (s : List ℕ) → Bytes s → (at : ℕ) {next : ℕ} {p : SynchronizationParametersTLV} → synchronization s at ≡ read p next
+      → {simple : ChannelSequence} → toSimple (p .«channel_sequence» .«channel_sequence») ≡ answer simple → Fills formats.synchronizations (withItsSequence p simple)
+  -- what was read is consistent and, of bytes, within its widths, so that it can be written again and read back, unless its sequence is a legacy one; a header
+  -- need only be within its widths
   pub sequences-consistent : (encoding : ℕ) (s : List ℕ) (at : ℕ) {next : ℕ} {q : ChannelSequence} → sequence encoding s at ≡ read q next
       → (q .encoding ≡ encoding) × (length (q .bytes) ≡ 32) × (Q.consistent q ≡ answer true)
+  pub sequences-in-width : (encoding : ℕ) → encoding < 256 → (s : List ℕ) → Bytes s → (at : ℕ) {next : ℕ} {q : ChannelSequence} → sequence encoding s at ≡ read q next
+      → SequenceInWidth q
   pub channel-sequences-consistent : (s : List ℕ) (at : ℕ) {next : ℕ} {c : ChannelSequenceTLV} → channelSequence s at ≡ read c next
       → (length (c .«channel_sequence» .bytes) ≡ 32) × (C.consistent c ≡ answer true)
   pub channel-sequences-in-width : (s : List ℕ) → Bytes s → (at : ℕ) {next : ℕ} {c : ChannelSequenceTLV} → channelSequence s at ≡ read c next
-      → AllInWidth (C.numbers c)
+      → ChannelSequenceInWidth c
   pub data-paths-consistent : (s : List ℕ) (at : ℕ) {next : ℕ} {r : DataPathStateTLV} → dataPath s at ≡ read r next → consistent r ≡ true
   pub data-paths-in-width : (s : List ℕ) → Bytes s → (at : ℕ) {next : ℕ} {r : DataPathStateTLV} → dataPath s at ≡ read r next → Ranges r
   pub synchronizations-consistent : (s : List ℕ) {p : SynchronizationParametersTLV} {size : ℕ} → synchronization s 0 ≡ read p size
       → (length (p .«channel_sequence» .«channel_sequence» .bytes) ≡ 32) × (S.consistent p ≡ answer true)
   pub synchronizations-in-width : (s : List ℕ) → Bytes s → (at : ℕ) {next : ℕ} {p : SynchronizationParametersTLV} → synchronization s at ≡ read p next
-      → AllInWidth (S.numbers p)
+      → SynchronizationInWidth p
   pub headers-consistent : (s : List ℕ) → Bytes s → (at : ℕ) {next : ℕ} {f : AWDLActionFrame} → header s at ≡ read f next → InWidth f
-  -- what was read and is written again gives the bytes that `rewritten` says: its own, but for the bits that are dropped, and those that a
-  -- channel word carries beside its channel
+  -- a sequence, or a record with a sequence, that was read and is written again gives its own bytes, unless the sequence is a legacy one
   pub sequences-again : (encoding : ℕ) (s : List ℕ) (at : ℕ) {next : ℕ} {q : ChannelSequence} → sequence encoding s at ≡ read q next
-      → (bytes : List ℕ) × (Q.bytesOf q ≡ answer bytes) × (Q′.rewritten encoding s at ≡ read bytes next)
+      → isLegacy q ≡ false → Q.bytesOf q ≡ answer (between s at next)
   pub channel-sequences-again : (s : List ℕ) → Bytes s → (at : ℕ) {next : ℕ} {c : ChannelSequenceTLV} → channelSequence s at ≡ read c next
-      → (bytes : List ℕ) × (C.bytesOf c ≡ answer bytes) × (rewrittenChannelSequence s at ≡ read bytes next)
+      → isLegacy (c .«channel_sequence») ≡ false → C.bytesOf c ≡ answer (between s at next)
+  pub synchronizations-again : (s : List ℕ) → Bytes s → {p : SynchronizationParametersTLV} {size : ℕ} → synchronization s 0 ≡ read p size
+      → isLegacy (p .«channel_sequence» .«channel_sequence») ≡ false → S.bytesOf p ≡ answer (between s 0 size)
+  -- a data path record and a header give the bytes that `rewritten` says: their own, but for the bits that are dropped, and those that a channel word
+  -- carries beside its channel
   pub data-paths-again : (s : List ℕ) → Bytes s → (at : ℕ) {next : ℕ} {r : DataPathStateTLV} → dataPath s at ≡ read r next
       → D.rewritten s at ≡ read (recordBytes r) next
-  pub synchronizations-again : (s : List ℕ) → Bytes s → {p : SynchronizationParametersTLV} {size : ℕ} → synchronization s 0 ≡ read p size
-      → (bytes : List ℕ) × (S.bytesOf p ≡ answer bytes) × (S′.rewritten s 0 ≡ read bytes size)
   pub headers-again : (s : List ℕ) → Bytes s → (at : ℕ) {next : ℕ} {f : AWDLActionFrame} → header s at ≡ read f next
       → F′.rewritten s at ≡ read (headerBytes f) next
-  -- so a frame that is written again with its own tail is that frame, byte for byte, and the 33 fixed bytes of a synchronization value come back
-  -- as they stand
+  -- so a frame that is written again with its own tail is that frame, byte for byte; and the 33 fixed bytes of a synchronization value are those of its
+  -- record, whatever its sequence is
   pub frames-again : (s : List ℕ) → Bytes s → {next : ℕ} {f : AWDLActionFrame} → header s 0 ≡ read f next → F.bytesOf f (F.tailOf s) ≡ s
   pub fixed-again : (s : List ℕ) → Bytes s → {p : SynchronizationParametersTLV} {size : ℕ} → synchronization s 0 ≡ read p size
       → S.fixedBytes p ≡ take 33 s
@@ -123,7 +141,7 @@ pub record Demand2 : Type 1 where
   pub mended-consistent : (r : DataPathStateTLV) → ChannelRight r → consistent (mended r) ≡ true
   pub mended-same : (r : DataPathStateTLV) → r .flags .0 < 2 ^ 16 → consistent r ≡ true → mended r ≡ r
   -- consistent records can be laid end to end, with nothing between them, in every format that is read back with anything behind it, if some bytes are read as
-  -- one record at most, with one size, and no bytes as none; sequences, where all have one encoding
+  -- one record at most, with one size, and no bytes as none; sequences, where all have one encoding, 0 or 3, since of no other are any written
   pub laid-end-to-end : (F : Format) → RoundTrip F → OneReading F → EndToEnd F
   pub data-paths-end-to-end : EndToEnd formats.dataPaths
   pub channel-sequences-end-to-end : EndToEnd formats.channelSequences

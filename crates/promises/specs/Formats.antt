@@ -1,7 +1,7 @@
 -- What is written, and what is read back of it.
 use mathlib.Core.Path.{_≡_}
 use Prim.Native.Nat.{ℕ, _+_, _≤_, _<_}
-use mathlib.Core.Bool.{true}
+use mathlib.Core.Bool.{true, false}
 use mathlib.Core.List.{List, _++_}
 use lib.ListN.{length, getD, take, drop}
 use Rattle.wire.specs.Reading.{read}
@@ -10,6 +10,7 @@ use Rattle.wire.specs.Answer.{Answer, answer}
 use Rattle.wire.specs.Writing.{Wrote}
 use Rattle.channel_sequence.specs.declared.channel_sequence.ChannelSequence.{ChannelSequence}
 use Rattle.channel_sequence.specs.Sequences as Q
+use Rattle.channel_sequence.specs.Sequences.{isLegacy}
 use Rattle.channel_sequence.specs.SequenceReader.{sequence}
 use Rattle.channel_sequence_tlv.specs.declared.channel_sequence_tlv.ChannelSequenceTLV.{ChannelSequenceTLV}
 use Rattle.channel_sequence_tlv.specs.SequenceTLVs as C
@@ -36,7 +37,8 @@ abbrev pub Bytes : List ℕ → Type 0
 Bytes s = (i : ℕ) → getD s i 0 < 256
 
 -- what is written of a record and how long that is, when it is consistent, and what it is to find it at the start of some
--- bytes, with its size. A sequence's reader is told the encoding.
+-- bytes, with its size. A sequence's reader is told the encoding. Of sequences, and of the records that hold one, those with a legacy sequence are left
+-- out, since they are not written.
 pub record Format : Type 1 where
   pub Record : Type 0
   pub bytes : Record → Answer (List ℕ)
@@ -64,7 +66,7 @@ sequences =
       Record = ChannelSequence;
       bytes = Q.bytesOf;
       size = Q.sizeOf;
-      Consistent = λ q. (length (q .bytes) ≡ 32) × (Q.consistent q ≡ answer true);
+      Consistent = λ q. (length (q .bytes) ≡ 32) × (Q.consistent q ≡ answer true) × (isLegacy q ≡ false);
       ReadAs = λ q s n. sequence (q .encoding) s 0 ≡ read q n;
     }
 
@@ -95,7 +97,9 @@ channelSequences =
       Record = ChannelSequenceTLV;
       bytes = C.bytesOf;
       size = C.sizeOf;
-      Consistent = λ c. AllInWidth (C.numbers c) × (length (c .«channel_sequence» .bytes) ≡ 32) × (C.consistent c ≡ answer true);
+      Consistent = λ c.
+          AllInWidth (C.numbers c) × (length (c .«channel_sequence» .bytes) ≡ 32) × (C.consistent c ≡ answer true)
+          × (isLegacy (c .«channel_sequence») ≡ false);
       ReadAs = λ c s n. channelSequence s 0 ≡ read c n;
     }
 
@@ -105,7 +109,9 @@ synchronizations =
       Record = SynchronizationParametersTLV;
       bytes = S.bytesOf;
       size = S.sizeOf;
-      Consistent = λ p. AllInWidth (S.numbers p) × (length (p .«channel_sequence» .«channel_sequence» .bytes) ≡ 32) × (S.consistent p ≡ answer true);
+      Consistent = λ p.
+          AllInWidth (S.numbers p) × (length (p .«channel_sequence» .«channel_sequence» .bytes) ≡ 32) × (S.consistent p ≡ answer true)
+          × (isLegacy (p .«channel_sequence» .«channel_sequence») ≡ false);
       ReadAs = λ p s n. synchronization s 0 ≡ read p n;
     }
 

@@ -8,7 +8,6 @@ use Rattle.wire.specs.Answer.{answer}
 use Rattle.wire.specs.Addresses.{addressBytes}
 use Rattle.wire.proofs.Octets.{Octets, octets-append, octets-little}
 use Rattle.wire.proofs.ReadsBack.{from-bytes}
-use Rattle.channel_sequence_tlv.proofs.SequenceTLVs as C
 use Rattle.synchronization_parameters.specs.declared.synchronization_parameters_tlv.SynchronizationParametersTLV.{SynchronizationParametersTLV}
 use Rattle.synchronization_parameters.specs.SynchronizationReader.{synchronization}
 use Rattle.synchronization_parameters.specs.SynchronizationBytes.{consistent, fixedBytes}
@@ -40,7 +39,7 @@ fixed-octets p address =
 consistent-read : (p : SynchronizationParametersTLV) → SynchronizationInWidth p → consistent p ≡ answer true → ReadFromBytes synchronization p
 consistent-read p fits e =
     let w = channels-filled p (fits .numbers) (fits .sequence .many) e in
-    let octets = octets-append (fixed-octets p (record { small = fits .address })) (C.filled-octets w (record { small = fits .sequence .small })) in
+    let octets = octets-append (fixed-octets p (record { small = fits .address })) (w .octets (record { small = fits .sequence .small })) in
     from-bytes (synchronization-back p (w .back) (fits .numbers)) (octets .small)
 
 pub consistent-exactly : (p : SynchronizationParametersTLV) → SynchronizationInWidth p → (consistent p ≡ answer true) ↔ ReadFromBytes synchronization p

@@ -1,13 +1,14 @@
--- A consistent record whose numbers fit their fields fills exactly its size and reads back as itself, from any place and with anything behind.
+-- A consistent record whose numbers fit their fields has bytes that fill exactly its size and are read as itself, from any place and with anything behind; unless its sequence is a legacy one, they are written.
 -- Assumes nothing.
 use Prim.Native.Nat.{ℕ, _+_}
 use mathlib.Core.Path.{_≡_, sym, ap, _∙_}
-use mathlib.Core.Bool.{true}
+use mathlib.Core.Bool.{true, false}
 use mathlib.Core.List.{List, [], _∷_, _++_}
 use lib.ListN.{length, take, length-append}
 use Rattle.wire.specs.Answer.{answer}
 use Rattle.wire.specs.Numbers.{AllInWidth, one}
 use Rattle.wire.proofs.ReadsBack.{Back, made-back, number-on, pair-on, address-on}
+use Rattle.channel_sequence.specs.Sequences.{isLegacy}
 use Rattle.channel_sequence_tlv.specs.SequenceTLVReader.{channelSequence}
 use Rattle.channel_sequence_tlv.proofs.SequenceTLVs as C
 use Rattle.synchronization_parameters.specs.declared.synchronization_parameters_tlv.SynchronizationParametersTLV.{SynchronizationParametersTLV}
@@ -34,10 +35,10 @@ pub channels-filled : (p : SynchronizationParametersTLV) → AllInWidth (numbers
     → consistent p ≡ answer true → C.ChannelSequenceFilled (p .«channel_sequence»)
 channels-filled p fit whole e = C.round-trip (p .«channel_sequence») (behind (take 18 (numbers p)) fit) whole e
 
--- the bytes of a record: as many as its size says, and read back as the record
+-- the bytes of a record: as many as its size says, and read as the record; one with a legacy sequence is not written
 pub record SynchronizationFilled (p : SynchronizationParametersTLV) : Type 0 where
   pub bytes : List ℕ
-  pub written : bytesOf p ≡ answer bytes
+  pub written : isLegacy (p .«channel_sequence» .«channel_sequence») ≡ false → bytesOf p ≡ answer bytes
   pub size : sizeOf p ≡ answer (length bytes)
   pub back : Back synchronization bytes p
 
@@ -49,7 +50,7 @@ round-trip p fit whole e =
     length-append (fixedBytes p) (w .bytes) ∙ ap (λ (n : ℕ). n + length (w .bytes)) (length-fixed p) in
     record {
       bytes = fixedBytes p ++ w .bytes;
-      written = rw (w .written);
+      written = λ other. rw (w .written other);
       size = rw (w .size) (ap answer (sym all));
       back = synchronization-back p (w .back) fit;
     }

@@ -4,7 +4,7 @@ ghost use Prim.Native.Nat.{_+_, _*_, _≤_};
 ghost use lib.ListN.{length, getD, take};
 ghost use Rattle.wire.specs.Reading as Reading;
 ghost use Rattle.wire.specs.Said.{saidSize};
-ghost use Rattle.wire.specs.Writing.{Put, PutIfRoom, Wrote};
+ghost use Rattle.wire.specs.Writing.{lengthOf, Put, PutIfRoom, Wrote};
 ghost use Rattle.channel_sequence_tlv.specs.SequenceTLVs.{headBytes};
 ghost use Rattle.channel_sequence_tlv.specs.SequenceTLVReader.{channelSequence};
 ghost use Rattle.channel_sequence.specs.Said.{saidConsistent};
@@ -99,10 +99,20 @@ impl SynchronizationParametersTLV {
         }
     }
 
+    // What the writer goes by, settled before its first byte. A record with a legacy sequence has a size too, and is not written.
+    pub fn written_size(self) -> Size
+        ensures { λ r. ⌜ saidSize r ≡ lengthOf (bytesOf self) ⌝ }
+    {
+        match self.channel_sequence.written_size() {
+            Size::Bytes(n) => Size::Bytes(FIXED_SIZE + n),
+            Size::Refused(why_not) => Size::Refused(why_not),
+        }
+    }
+
     pub fn write(self, buf: &mut [u8]) -> Size
         ensures { λ r. ⌜ Wrote (now (buf .entry)) (bytesOf self) (saidSize r) (now (buf .exit)) ⌝ }
     {
-        match wire::within(buf.len(), self.size()) {
+        match wire::within(buf.len(), self.written_size()) {
             Size::Bytes(n) => {
                 let at = put_fields(self, buf);
                 put_channels(self.channel_sequence, buf, at, n - FIXED_SIZE - HEAD_SIZE);

@@ -6,7 +6,7 @@ use native.Mathlib.Omega.{arith}
 use mathlib.Core.Path.{_≡_, refl, sym, _∙_}
 use mathlib.Core.Bool.{Bool, true, false, cond}
 use mathlib.Core.List.{List, [], _∷_, _++_, append-nil}
-use lib.ListN.{length, getD, take, drop, length-take, length-drop}
+use lib.ListN.{length, getD, take, drop, replicate, length-take, length-drop}
 use lib.Seq.{getD-drop, drop-length}
 use Rattle.wire.specs.Reading.{field}
 use Rattle.wire.specs.Numbers.{little, littleBytes, number, pairOf, withReserved, pairBytes}
@@ -38,7 +38,7 @@ first-or-rest b bs h p (suc i) = p .small i
 pub octets-cons : {b : ℕ} {bs : List ℕ} → b < 256 → Octets bs → Octets (b ∷ bs)
 octets-cons {b} {bs} h p = record { small = first-or-rest b bs h p }
 
-octets-rest : {b : ℕ} {bs : List ℕ} → Octets (b ∷ bs) → Octets bs
+pub octets-rest : {b : ℕ} {bs : List ℕ} → Octets (b ∷ bs) → Octets bs
 octets-rest p = record { small = λ i. p .small (suc i) }
 
 pub octets-append : {xs ys : List ℕ} → Octets xs → Octets ys → Octets (xs ++ ys)
@@ -56,6 +56,10 @@ octets-take (suc n) {s = b ∷ bs} p = octets-cons (p .small 0) (octets-take n (
 
 octets-drop : (n : ℕ) {s : List ℕ} → Octets s → Octets (drop n s)
 octets-drop n {s} p = record { small = λ i. rw (getD-drop n s i 0) (p .small (n + i)) }
+
+pub octets-zeros : (n : ℕ) → Octets (replicate n 0)
+octets-zeros zero = octets-none
+octets-zeros (suc n) = octets-cons (omega arith) (octets-zeros n)
 
 pub octets-little : (width v : ℕ) → Octets (littleBytes width v)
 octets-little zero v = octets-none

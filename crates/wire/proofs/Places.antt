@@ -1,17 +1,18 @@
--- What a place that was given tells of the field in front of it, and what a refusal tells of the fields behind.
+-- What a place that was given tells of the field in front of it, what a refusal tells of the fields behind, and the bytes between places.
 -- Assumes nothing.
 use Prim.Native.Nat.{ℕ, suc, _+_, _-_, _≤_}
 use native.Mathlib.Omega.{arith}
-use mathlib.Core.Path.{_≡_, sym, ap}
-use mathlib.Core.List.{List, _∷_}
+use mathlib.Core.Path.{_≡_, sym, ap, _∙_}
+use mathlib.Core.List.{List, _∷_, _++_}
 use lib.ListN.{length, getD, take, drop, length-take, length-drop}
-use lib.Seq.{take-all}
+use lib.Seq.{take-all, take-add, drop-drop}
 use borrow.Author.Tests.{lt-leb}
 use Rattle.wire.specs.declared.refusal.Refusal.{Refusal}
 use Rattle.wire.specs.declared.refusal.Refusal.the-variants.{Short}
 use Rattle.wire.specs.Reading.{Reading, read, refused, field, give, _>>=_}
 use Rattle.wire.specs.Answer.{answer, placeOf}
-use Rattle.wire.proofs.Lawful.{steps, field-read, field-refused}
+use Rattle.wire.specs.Parts.{between}
+use Rattle.wire.proofs.Lawful.{steps, part-between, field-read, field-refused}
 use Rattle.wire.proofs.Bytes.{PlacedField, from, field-whole}
 
 -- a reading that has no value but its place is that place
@@ -50,3 +51,17 @@ field-past n m s at e = let past = field-refused n s at e in rw (lt-leb (at + n 
 -- the part from a place to the end
 pub rest : (s : List ℕ) (at : ℕ) → take (length s - at) (drop at s) ≡ drop at s
 rest s at = take-all (length s - at) (drop at s) (simp length-drop (omega arith))
+
+-- a field that was read is the bytes between the two places
+pub field-between : (n : ℕ) (s : List ℕ) (at : ℕ) {a : List ℕ} {next : ℕ} → field n s at ≡ read a next → a ≡ between s at next
+field-between n s at {a} {next} e =
+    let f = field-read n s at e in
+    let many : next - at ≡ n = omega (arith, f .0) in
+    rw (many, ← part-between at n s (omega (arith, f .1))) (sym (f .2))
+
+pub between-both : (s : List ℕ) (at mid next : ℕ) → at ≤ mid → mid ≤ next → between s at mid ++ between s mid next ≡ between s at next
+between-both s at mid next h k =
+    let all : next - at ≡ mid - at + (next - mid) = omega arith in
+    let there : at + (mid - at) ≡ mid = omega arith in
+    let behind : drop (mid - at) (drop at s) ≡ drop mid s = drop-drop (mid - at) at s ∙ rw there in
+    sym (rw (all, take-add (mid - at) (next - mid) (drop at s), behind))

@@ -176,3 +176,7 @@ pub length-behind : (front : List ℕ) (bytes : Answer (List ℕ)) {size : Answe
     → lengthOf (bytes >>= λ b. answer (front ++ b)) ≡ (size >>= λ m. answer (length front + m))
 length-behind front (answer b) e = rw (← e) (ap answer (length-append front b))
 length-behind front (refusal why) e = rw (← e)
+
+pub written-behind : (front : List ℕ) (bytes : Answer (List ℕ)) {n : ℕ} → lengthOf (bytes >>= λ b. answer (front ++ b)) ≡ answer n
+    → (m : ℕ) × (lengthOf bytes ≡ answer m) × (length front + m ≡ n)
+written-behind front bytes e = size-behind (length front) (lengthOf bytes) (sym (length-behind front bytes refl) ∙ e)

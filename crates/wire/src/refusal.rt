@@ -12,7 +12,7 @@ pub enum Refusal {
     NotVersion,
     // A unicast length is neither 4 nor 8.
     UnicastLength,
-    // A channel encoding is none of the three.
+    // A channel encoding is none of the three or, where a sequence is to be converted, not the legacy one.
     Encoding,
     // The lent buffer is shorter than what is to be written.
     NoRoom,
@@ -22,6 +22,10 @@ pub enum Refusal {
     TooLong,
     // The count in front of a channel sequence is not that of sixteen entries.
     ChannelCount,
+    // A legacy sequence was to be written.
+    LegacySequence,
+    // The correction of a legacy channel passes below 0 or above 255.
+    CorrectedChannel,
 }
 
 impl Refusal {
@@ -39,6 +43,8 @@ impl Refusal {
             Refusal::Inconsistent => 7,
             Refusal::TooLong => 8,
             Refusal::ChannelCount => 10,
+            Refusal::LegacySequence => 18,
+            Refusal::CorrectedChannel => 19,
         }
     }
 
@@ -57,6 +63,8 @@ impl Refusal {
             Refusal::Inconsistent => 0,
             Refusal::TooLong => 0,
             Refusal::ChannelCount => 0,
+            Refusal::LegacySequence => 0,
+            Refusal::CorrectedChannel => 0,
         }
     }
 }

@@ -21,20 +21,20 @@ repeated-requires c κs = search needs
 returns : tie.Need-returns
 returns c = rw (told saidEncoding (c .before .before .before .before .before .before .from-bits .ensures) (c .before .before .before .before .known .given .1), ← c .before .before .consistent-entry .ensures, c .before .if1 .taken, c .repeated .ensures)
 
-not-fixed-requires : tie.Need-not-fixed-requires
-not-fixed-requires c κs = search needs
+not-made-requires : tie.Need-not-made-requires
+not-made-requires c κs = search needs
 
 enum-known-why : tie.Need-enum-known-why
 enum-known-why c = search needs
 
-not-fixed-requires-2 : tie.Need-not-fixed-requires-2
-not-fixed-requires-2 c κs = search needs
+not-made-requires-2 : tie.Need-not-made-requires-2
+not-made-requires-2 c κs = search needs
 
 returns-2 : tie.Need-returns-2
-returns-2 c = rw (told saidEncoding (c .before .before .before .before .before .before .from-bits .ensures) (c .before .before .before .before .known .given .1), ← c .before .before .consistent-entry .ensures, c .before .if1 .left) (c .not-fixed .ensures)
+returns-2 c = rw (told saidEncoding (c .before .before .before .before .before .before .from-bits .ensures) (c .before .before .before .before .known .given .1), ← c .before .before .consistent-entry .ensures, c .before .if1 .left) (c .not-made .ensures)
 
 returns-3 : tie.Need-returns-3
-returns-3 c = rw (told saidEncoding (c .before .before .before .before .from-bits .ensures) (c .before .before .why .given .1)) (c .not-fixed2 .ensures)
+returns-3 c = rw (told saidEncoding (c .before .before .before .before .from-bits .ensures) (c .before .before .why .given .1)) (c .not-made2 .ensures)
 
 pub fixed-channel-sequence-spec : {M : Type 1} → statement M
 fixed-channel-sequence-spec =
@@ -45,8 +45,8 @@ fixed-channel-sequence-spec =
     consistent-entry-requires
     repeated-requires
     returns
-    not-fixed-requires
+    not-made-requires
     enum-known-why
-    not-fixed-requires-2
+    not-made-requires-2
     returns-2
     returns-3)

@@ -1,6 +1,6 @@
 -- `SynchronizationParametersTLV::size` meets its contract: 33 bytes more than the sequence, or its refusal.
 -- Assumes nothing.
-use Rattle.channel_sequence_tlv.proofs.SequenceTLVs.{channel-sequence-sized}
+use Rattle.channel_sequence_tlv.proofs.SequenceTLVs.{few-bytes}
 use Rattle.synchronization_parameters.proofs.synchronization_parameters_tlv.SynchronizationParametersTLV.size.Statement.{statement}
 use Rattle.synchronization_parameters.proofs.synchronization_parameters_tlv.SynchronizationParametersTLV.size.Tie as tie
 use Rattle.wire.proofs.Once.{told}
@@ -9,7 +9,7 @@ use borrow.Author.Needs.{needs}
 use native.Mathlib.Omega.{arith}
 
 add-t6 : tie.Need-add-t6
-add-t6 c = omega (arith, channel-sequence-sized (c .before .before .before .before .args .self .«channel_sequence») (told saidSize (c .before .before .before .size .ensures) (c .before .n .given .1)) .few)
+add-t6 c = omega (arith, few-bytes (c .before .before .before .before .args .self .«channel_sequence») (told saidSize (c .before .before .before .size .ensures) (c .before .n .given .1)))
 
 returns : tie.Need-returns
 returns c = rw (told saidSize (c .before .before .before .size .ensures) (c .before .n .given .1))
