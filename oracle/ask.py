@@ -279,9 +279,12 @@ def show_refusal(refusal):
     return f"{refusal.number} offset={refusal.offset}"
 
 
-def refusal_answer(number, offset):
-    """The refusal itself; the offset is looked at with 1 alone."""
-    return show_refusal(Refused(number, offset if number == awdl.SHORT else 0))
+def refusal_answer(number, offset, channel):
+    """The refusal itself; the offset is looked at with 1 alone, and the channel
+    with 30 alone."""
+    offset = offset if number == awdl.SHORT else 0
+    channel = channel if number == awdl.SMALLER_LOAD else 0
+    return f"{show_refusal(Refused(number, offset))} channel={channel}"
 
 
 def number_answer(name, call):
@@ -332,6 +335,15 @@ def entry_answer(sequence, entry):
     except Refused as refusal:
         return f"{show_refusal(refusal)} {show_channel(awdl.Channel(0, 0, 0))}"
     return f"{ACCEPTED} nothing" if channel is None else f"{ACCEPTED} {show_channel(channel)}"
+
+
+def judge_answer(sequences, permitted, proposal):
+    """Our own proposal is shown where the refusal carries it."""
+    try:
+        awdl.judge(sequences, permitted, proposal)
+    except Refused as refusal:
+        return f"{show_refusal(refusal)} own={refusal.channel}"
+    return f"{ACCEPTED} own=0"
 
 
 def tail_answer(data):
@@ -464,6 +476,10 @@ REFUSALS = one_of({
     "ChannelCount": awdl.CHANNEL_COUNT,
     "LegacySequence": awdl.LEGACY_SEQUENCE,
     "CorrectedChannel": awdl.CORRECTED_CHANNEL,
+    "TooMany": awdl.TOO_MANY,
+    "NonePermitted": awdl.NONE_PERMITTED,
+    "NotPermitted": awdl.NOT_PERMITTED,
+    "SmallerLoad": awdl.SMALLER_LOAD,
 })
 ENTRY_KINDS = one_of({
     "simple": awdl.SIMPLE, "legacy": awdl.LEGACY, "opclass": awdl.OPCLASS,
@@ -504,7 +520,7 @@ def kept(keep):
 
 
 CALLS = {
-    "refusal": ([one(REFUSALS), OFFSET], refusal_answer),
+    "refusal": ([one(REFUSALS), OFFSET, U8], refusal_answer),
     "frame_read": ([BYTES], reading_answer(
         "size", awdl.read_frame, show_frame, awdl.Frame(0, 0, 0, 0))),
     "frame_tail": ([BYTES], tail_answer),
@@ -575,6 +591,9 @@ CALLS = {
     "sequence_fixed": ([CHANNEL], sequence_answer(awdl.fixed_sequence)),
     "sequence_to_simple": ([SEQUENCE], sequence_answer(awdl.sequence_to_simple)),
     "channel": ([CHANNEL], number_answer("channel", awdl.corrected_channel)),
+    "judge": ([BYTES, BYTES, U8], judge_answer),
+    "own_proposal": ([BYTES, BYTES], number_answer("channel", awdl.own_proposal)),
+    "channel_load": ([BYTES, U8], number_answer("load", awdl.channel_load)),
     "encoding": ([U8], number_answer("encoding", awdl.known_encoding)),
     "encoding_size": ([U8], number_answer("size", awdl.entry_size)),
     "entry_size": ([one(ENTRY_KINDS)], number_answer("size", awdl.entry_size)),

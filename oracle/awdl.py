@@ -1,19 +1,19 @@
 """One reading of docs/01-scope.md (01), in its order and words, with No. 1,
-No. 2, No. 4, No. 5, No. 7 and No. 10 of docs/02-change-requests.md (02). No. 14,
-which is taken up too, reads and writes as they do.
+No. 2, No. 4, No. 5, No. 7, No. 10 and No. 13 of docs/02-change-requests.md (02).
+No. 14, which is taken up too, reads and writes as they do.
 
 It is written from these alone; only the names of bits, and the numbers of types
 and subtypes that 01 does not list, are the Rust's. A reader gives its size
 and its record, a writer its size and the buffer as it is afterwards, and a
-call that is refused raises `Refused` with 01's number, and with 1 also the offset
-of the field that did not fit.
+call that is refused raises `Refused` with 01's number, with 1 also the offset
+of the field that did not fit, and with 30 also our own proposal.
 """
 
 from collections import namedtuple
 
 
 # Numbers a call can answer with; 9 is no longer given (02, No. 1), and 11 to 17
-# belong to requests that are not taken up.
+# and 20 to 26 belong to requests that are not taken up.
 
 SHORT = 1                   # the input ends before a needed byte
 NOT_ACTION = 2              # first frame byte present and not 0x08
@@ -26,16 +26,22 @@ TOO_LONG = 8                # an item value is longer than 65,535 bytes
 CHANNEL_COUNT = 10          # the count byte of a channel sequence is not 15 (02)
 LEGACY_SEQUENCE = 18        # a legacy sequence is to be written (02)
 CORRECTED_CHANNEL = 19      # a corrected channel would be none of 0 to 255 (02)
+TOO_MANY = 27               # more than 64 sequences or 16 permitted channels (02)
+NONE_PERMITTED = 28         # there is no permitted channel (02)
+NOT_PERMITTED = 29          # the proposal is not permitted (02)
+SMALLER_LOAD = 30           # a permitted channel has a smaller load (02)
 
 
 class Refused(Exception):
     """A number and, with 1, the offset of the first byte of the field that did
-    not fit; all other answers give 0 there (02, No. 4)."""
+    not fit; all other answers give 0 there (02, No. 4). With 30 it carries a
+    channel, our own proposal, and is the one refusal that does (02, No. 13)."""
 
-    def __init__(self, number, offset=0):
-        super().__init__(number, offset)
+    def __init__(self, number, offset=0, channel=0):
+        super().__init__(number, offset, channel)
         self.number = number
         self.offset = offset
+        self.channel = channel
 
 
 class Source:
@@ -627,6 +633,70 @@ def synchronization_written_size(record):
 def write_synchronization(record, buffer):
     check_written(record.channel_sequence.sequence)
     return put(synchronization_bytes(record), buffer)
+
+
+# Which channel to move to (02, No. 13). The sequences are lent as bytes: each is
+# one field of 33, its encoding and then its 32 bytes, one behind the other. The
+# permitted channels are a list, and its order counts.
+
+LENT_SIZE = 33
+MOST_SEQUENCES = 64
+MOST_PERMITTED = 16
+
+
+def lent_sequences(data):
+    """The sequences as they stand, consistent or not. One that is cut does not
+    fit, and its offset is the place at which it starts."""
+    source = Source(data)
+    sequences = []
+    while source.at < len(data):
+        lent = source.take(LENT_SIZE)
+        sequences.append(Sequence(lent[0], lent[1:]))
+    return sequences
+
+
+def corrected_channels(data, permitted):
+    """The corrected channel of each entry of each sequence. Refused with 1 for
+    one that is cut; then with 27, more than 64 sequences or 16 permitted channels;
+    then with 5, an encoding not 0, 1 or 3 in any of them."""
+    sequences = lent_sequences(data)
+    if len(sequences) > MOST_SEQUENCES or len(permitted) > MOST_PERMITTED:
+        raise Refused(TOO_MANY)
+    return [
+        corrected_channel(sequence_entry(sequence, entry))
+        for sequence in sequences for entry in range(ENTRIES)
+    ]
+
+
+def loads(data, permitted):
+    """Each permitted channel with its load: how often it is among the corrected
+    channels. Refused with 28 where no channel is permitted, after all that the
+    sequences are refused with."""
+    corrected = corrected_channels(data, permitted)
+    if not permitted:
+        raise Refused(NONE_PERMITTED)
+    return {channel: corrected.count(channel) for channel in permitted}
+
+
+def channel_load(data, channel):
+    """The load of one channel, permitted or not: no list is given."""
+    return corrected_channels(data, []).count(channel)
+
+
+def own_proposal(data, permitted):
+    """Of the channels on the list that would pass, the one that is listed first."""
+    load = loads(data, permitted)
+    return next(channel for channel in permitted if load[channel] == min(load.values()))
+
+
+def judge(data, permitted, proposal):
+    """A proposal passes where the list holds it, else 29, and nothing on the list
+    is less loaded, else 30, which carries our own proposal."""
+    load = loads(data, permitted)
+    if proposal not in permitted:
+        raise Refused(NOT_PERMITTED)
+    if any(load[channel] < load[proposal] for channel in permitted):
+        raise Refused(SMALLER_LOAD, channel=own_proposal(data, permitted))
 
 
 # The report of a frame, line by line, and the dump. A value of type 0x12 adds no

@@ -2,7 +2,9 @@
 cut of good ones, cuts around the first byte of each field, offsets of short
 values in their frames, places behind the start and past the end, channel
 sequences with wrong counts and encodings, legacy sequences whose corrections
-come near 0 and 255 and what they are converted to, records of every presence,
+come near 0 and 255 and what they are converted to, sets of sequences with equal
+and unequal loads, as many as may be and one more, and proposals of every kind, the
+same sets in another order and with a sequence more, records of every presence,
 reserved bytes and pads of any value, records that were read and are written
 again, archives of records laid end to end, buffers short, exact and long,
 numbers at the limits of their fields, words with one bit set or one clear,
@@ -468,6 +470,7 @@ LISTED = [
 REFUSALS = (
     "Short", "NotAction", "NotVersion", "UnicastLength", "Encoding", "NoRoom",
     "Inconsistent", "TooLong", "ChannelCount", "LegacySequence", "CorrectedChannel",
+    "TooMany", "NonePermitted", "NotPermitted", *["SmallerLoad"] * 3,
     "SentBeforeHandOver", "short", "None",
 )
 TYPED = {
@@ -550,7 +553,7 @@ def offset_in_frame():
 
 
 def refusal():
-    return [f"refusal {R.choice(REFUSALS)} {number(LARGEST)}"]
+    return [f"refusal {R.choice(REFUSALS)} {number(LARGEST)} {number(255)}"]
 
 
 def step():
@@ -764,6 +767,124 @@ def converted():
     return [*lines, f"{name}_write {words(whole(part))} {buffer(len(data) - 16)}"]
 
 
+# Which channel to move to (02, No. 13). A set of sequences is about a few
+# channels, so that loads are equal or nearly so; many are near 0 and 255.
+
+BAND = 0, 1, 2, 6, 36, 38, 40, 42, 44, 149, 253, 254, 255
+
+
+def entry_on(kind, channel_number):
+    """An entry of an encoding that counts for a channel. What does not count is
+    any byte: flag bits above the lowest two, an operating class."""
+    if kind == awdl.SIMPLE:
+        return bytes([channel_number])
+    if kind == awdl.OPCLASS:
+        return bytes([channel_number, R.choice(BAND)])
+    flags = R.getrandbits(8)
+    return bytes([flags, (channel_number - awdl.correction(flags)) % 256])
+
+
+def lent_sequence(channels):
+    """A sequence of 33 bytes on these channels in turn, or on any of them."""
+    kind = R.choice((awdl.SIMPLE, awdl.LEGACY, awdl.LEGACY, awdl.OPCLASS))
+    hops = channels * awdl.ENTRIES if chance(2) else R.choices(channels, k=awdl.ENTRIES)
+    entries = b"".join(entry_on(kind, hop) for hop in hops[:awdl.ENTRIES])
+    unused = bytes(32) if chance(2) else bytes(R.choices(BAND, k=32))
+    return bytes([kind]) + (entries + unused)[:32]
+
+
+def lent_set(channels):
+    """Up to five sequences; seldom about 64, each of them many times. One in six
+    sets has an encoding that is not listed, in its first, its last or any one."""
+    sequences = [lent_sequence(channels) for _ in range(R.choice((0, 1, 1, 2, 2, 3, 4, 5)))]
+    if chance(12):
+        sequences = [lent_sequence(channels) for _ in range(R.choice((1, 1, 2, 3)))] * 65
+        sequences = sequences[:R.choice((63, 64, 64, 65, 65, 66))]
+    if sequences and chance(6):
+        at = R.choice((0, -1, R.randrange(len(sequences))))
+        sequences[at] = bytes([R.choice((2, 4, 255, 2 + R.getrandbits(7)))]) + sequences[at][1:]
+    return sequences
+
+
+def lent(sequences):
+    """As bytes; one set in twelve is cut inside its last sequence, or goes on."""
+    data = b"".join(sequences)
+    if chance(12):
+        data = data[:-R.choice((1, 1, 32, R.randrange(1, 33)))] or b"\0"
+    elif chance(40):
+        data += R.randbytes(R.choice((1, 32)))
+    return data
+
+
+def permitted_list(channels):
+    """Some of the channels, often all in any order, at times one twice; seldom
+    none, 16 or 17."""
+    count = R.choice((1, 2, 3, len(channels), len(channels)))
+    listed_ones = R.sample(channels, min(count, len(channels)))
+    if chance(6):
+        listed_ones.insert(R.randrange(len(listed_ones) + 1), R.choice(listed_ones))
+    if chance(6):
+        listed_ones.append(some(255))
+    if chance(12):
+        listed_ones = []
+    elif chance(8):
+        listed_ones = (listed_ones * 17)[:R.choice((15, 16, 16, 17, 17, 18))]
+    return bytes(listed_ones)
+
+
+def proposal_of(data, permitted):
+    """A permitted channel mostly, often one that is accepted, else any."""
+    if chance(5) or not permitted:
+        return R.choice(BAND) if chance(2) else some(255)
+    if chance(2):
+        return R.choice(permitted)
+    try:
+        load = awdl.loads(data, permitted)
+    except awdl.Refused:
+        return R.choice(permitted)
+    return R.choice([one for one in permitted if load[one] == min(load.values())])
+
+
+def choice_of_channel():
+    """A set, and what is asked of it: the judge's answer, ours, and a load."""
+    channels = R.sample(BAND, R.randrange(1, 6))
+    data, permitted = lent(lent_set(channels)), permitted_list(channels)
+    lines = [f"judge {spell(data)} {spell(permitted)} {proposal_of(data, permitted)}"]
+    if chance(2):
+        lines.append(f"own_proposal {spell(data)} {spell(permitted)}")
+    if chance(2):
+        one = R.choice(channels) if chance(1.2) else number(255)
+        lines.append(f"channel_load {spell(data)} {one}")
+    return lines
+
+
+def every_proposal():
+    """Every permitted channel of a set is proposed, one that is not, and our own
+    is asked, with the load of each."""
+    channels = R.sample(BAND, R.randrange(1, 6))
+    data, permitted = lent(lent_set(channels)), permitted_list(channels)
+    words = f"{spell(data)} {spell(permitted)}"
+    return [
+        f"own_proposal {words}",
+        *(f"judge {words} {one}" for one in (*permitted, some(255))),
+        *(f"channel_load {spell(data)} {one}" for one in permitted),
+    ]
+
+
+def other_places():
+    """A set, the same sequences in other places, and with one that touches a
+    single channel: the first two answers are the same."""
+    channels = R.sample(BAND, R.randrange(2, 6))
+    sequences, permitted = lent_set(channels), permitted_list(channels)
+    proposal = proposal_of(b"".join(sequences), permitted)
+    moved = R.sample(sequences, len(sequences))
+    added = [*sequences, lent_sequence(channels[:1])]
+    return [
+        f"judge {spell(b''.join(lent_ones))} {spell(permitted)} {proposal}"
+        for lent_ones in (sequences, moved, added)
+    ]
+
+
 def of_channel():
     return [f"{R.choice(('channel', 'sequence_fixed'))} {channel_words()}"]
 
@@ -876,11 +997,12 @@ MAKERS = [
     *[sequence_write] * 2, *[sequence_entry] * 2, *[of_channel] * 2, *[small] * 2,
     one_bit_kept, two_words, listed, *[next_line] * 3, *[field_cut] * 6, header_cut,
     *[short_in_frame] * 2, *[offset_in_frame] * 3, refusal, *[written_again] * 4,
-    *[archive] * 2, *[to_simple] * 4, *[converted] * 2,
+    *[archive] * 2, *[to_simple] * 4, *[converted] * 2, *[choice_of_channel] * 6,
+    *[other_places] * 2,
 ]
 EVERY = [
     *[every_cut] * 3, *[every_place] * 2, every_buffer, every_channel_sequence_cut,
-    every_channel_sequence_buffer,
+    every_channel_sequence_buffer, every_proposal,
 ]
 
 

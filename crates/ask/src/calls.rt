@@ -1,6 +1,7 @@
 // The calls: a name and a letter for each argument, or for each record of arguments, and what answers the call.
 use crate::fields::show_said;
 use crate::items;
+use crate::judging;
 use crate::lines;
 use crate::numbers::Said;
 use crate::numbers::size_at;
@@ -125,27 +126,33 @@ pub(crate) const CHANNEL_SEQUENCE_HEAD: usize = 54;
 
 pub(crate) const SEQUENCE_ENTRY: usize = 55;
 
-pub(crate) const DUMP_START: usize = 56;
+pub(crate) const JUDGE: usize = 56;
 
-pub(crate) const LINES: usize = 57;
+pub(crate) const OWN_PROPOSAL: usize = 57;
 
-pub(crate) const DUMP: usize = 58;
+pub(crate) const CHANNEL_LOAD: usize = 58;
 
-pub(crate) const CONSTANTS: usize = 59;
+pub(crate) const DUMP_START: usize = 59;
 
-pub(crate) const NEXT_LINE: usize = 60;
+pub(crate) const LINES: usize = 60;
 
-pub(crate) const FRAME_WRITE: usize = 61;
+pub(crate) const DUMP: usize = 61;
 
-pub(crate) const WRITE_ITEM: usize = 62;
+pub(crate) const CONSTANTS: usize = 62;
 
-pub(crate) const DATA_PATH_WRITE: usize = 63;
+pub(crate) const NEXT_LINE: usize = 63;
 
-pub(crate) const SYNCHRONIZATION_WRITE: usize = 64;
+pub(crate) const FRAME_WRITE: usize = 64;
 
-pub(crate) const CHANNEL_SEQUENCE_WRITE: usize = 65;
+pub(crate) const WRITE_ITEM: usize = 65;
 
-pub(crate) const SEQUENCE_WRITE: usize = 66;
+pub(crate) const DATA_PATH_WRITE: usize = 66;
+
+pub(crate) const SYNCHRONIZATION_WRITE: usize = 67;
+
+pub(crate) const CHANNEL_SEQUENCE_WRITE: usize = 68;
+
+pub(crate) const SEQUENCE_WRITE: usize = 69;
 
 // The names of the calls, in the order of their numbers.
 pub(crate) fn number_of(word: &[u8]) -> Decimal {
@@ -159,9 +166,9 @@ pub(crate) fn number_of(word: &[u8]) -> Decimal {
         step_with_value value end walk reader_next first_data_path next_data_path reader_first_data_path \
         all_data_paths first_synchronization next_synchronization reader_first_synchronization \
         all_synchronizations first_channel_sequence next_channel_sequence reader_first_channel_sequence \
-        all_channel_sequences frame_tail offset_in_frame channel_sequence_head sequence_entry dump_start \
-        lines dump constants next_line frame_write write_item data_path_write synchronization_write \
-        channel_sequence_write sequence_write",
+        all_channel_sequences frame_tail offset_in_frame channel_sequence_head sequence_entry judge \
+        own_proposal channel_load dump_start lines dump constants next_line frame_write write_item \
+        data_path_write synchronization_write channel_sequence_write sequence_write",
         word,
     )
 }
@@ -171,8 +178,8 @@ pub(crate) fn put_letters(buf: &mut [u8; 2048]) -> usize {
     wire::put_slice(
         buf,
         0,
-        b"n8 g 44 g D D D 2 kc 4 2 22 g S S S g8 R R R g81 Q Q Q C Q C 1 1 e 1 1 1 1 g8 g8 gI g g g8 g g8 g8 \
-        g g g8 g8 g g g8 g8 g g gI8 R Q8 g g g t gMo Fgl 1gl Dl Sl Rl Ql",
+        b"n81 g 44 g D D D 2 kc 4 2 22 g S S S g8 R R R g81 Q Q Q C Q C 1 1 e 1 1 1 1 g8 g8 gI g g g8 g g8 g8 \
+        g g g8 g8 g g g8 g8 g g gI8 R Q8 gl1 gl g1 g g g t gMo Fgl 1gl Dl Sl Rl Ql",
     )
 }
 
@@ -182,7 +189,7 @@ fn put_answer_letters(buf: &mut [u8; 2048]) -> usize {
     wire::put_slice(
         buf,
         0,
-        b"- ZF U ZD T -D Z -K W B B H ZS T Z Z AR T Z Z AQ T Z Z -Q -Q L E Z Z B B B B",
+        b"L ZF U ZD T -D Z -K W B B H ZS T Z Z AR T Z Z AQ T Z Z -Q -Q L E Z Z B B B B",
     )
 }
 
@@ -261,6 +268,9 @@ fn texts(
         OFFSET_IN_FRAME => crate::frames::offset_in_frame(bytes, v, out, at),
         CHANNEL_SEQUENCE_HEAD => sequences::head(v, given, out, at),
         SEQUENCE_ENTRY => sequences::entry(v, given, out, at),
+        JUDGE => judging::judge(bytes, v, lent, out, at),
+        OWN_PROPOSAL => judging::own_proposal(bytes, v, lent, out, at),
+        CHANNEL_LOAD => judging::channel_load(bytes, v, out, at),
         DUMP_START => lines::dump_start(bytes, out, at),
         LINES => lines::lines(bytes, Mark::Frame, out, at),
         DUMP => lines::lines(bytes, report::dump_start(bytes), out, at),

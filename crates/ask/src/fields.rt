@@ -23,7 +23,7 @@ pub(crate) fn put_lists(buf: &mut [u8; 2048]) -> usize {
     wire::put_slice(
         buf,
         0,
-        b"8size=\n8next=\n4micros=\n1consistent=\n2word=\n4bits=\n1has=\n1channel=\n1encoding=\nmmark=\n\
+        b"8size=\n8next=\n4micros=\n1consistent=\n2word=\n4bits=\n1has=\n1channel=\n1encoding=\n1own=\n2load=\nmmark=\n\
         8at= 1type= 8length=\n\
         8at= 8items=\n\
         8at= 1type= 8length= 8next= 8items=\n\
@@ -44,11 +44,11 @@ pub(crate) fn put_lists(buf: &mut [u8; 2048]) -> usize {
     )
 }
 
-const LISTS: usize = 20;
+const LISTS: usize = 22;
 
 // The list that a letter stands for. A letter that stands for none has the empty one.
 pub(crate) fn list_of(lists: &[u8], letter: u8) -> &[u8] {
-    let line = place_of(b"ZAUTWBHLEMIXYKCQRFDS", 0, letter);
+    let line = place_of(b"ZAUTWBHLEONMIXYKCQRFDS", 0, letter);
     if line == LISTS {
         return first(lists, 0);
     }
@@ -73,7 +73,7 @@ fn put_words(buf: &mut [u8; 2048]) -> usize {
         simple legacy opclass\n\
         too_long frame item data_path synchronization end\n\
         Short NotAction NotVersion UnicastLength Encoding NoRoom Inconsistent TooLong ChannelCount \
-        LegacySequence CorrectedChannel\n\
+        LegacySequence CorrectedChannel TooMany NonePermitted NotPermitted SmallerLoad\n\
         types sizes subtypes data_path_flags extended_flags unicast_options channel_map legacy_flags",
     )
 }

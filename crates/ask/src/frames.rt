@@ -60,7 +60,7 @@ fn tx_delta(phy: u32, target: u32) -> Said {
     one(action_frame::tx_delta(PhyTxTime(phy), TargetTxTime(target)) as u64)
 }
 
-fn refusal_of(n: u64, offset: usize) -> Refusal {
+fn refusal_of(n: u64, offset: usize, channel: u8) -> Refusal {
     match n {
         0 => Refusal::Short(offset),
         1 => Refusal::NotAction,
@@ -72,13 +72,17 @@ fn refusal_of(n: u64, offset: usize) -> Refusal {
         7 => Refusal::TooLong,
         8 => Refusal::ChannelCount,
         9 => Refusal::LegacySequence,
-        _ => Refusal::CorrectedChannel,
+        10 => Refusal::CorrectedChannel,
+        11 => Refusal::TooMany,
+        12 => Refusal::NonePermitted,
+        13 => Refusal::NotPermitted,
+        _ => Refusal::SmallerLoad(channel),
     }
 }
 
 pub(crate) fn answer(call: usize, v: &[u64; 32], bytes: &[u8]) -> Said {
     match call {
-        calls::REFUSAL => refused(refusal_of(number_at(v, 0), size_at(v, 1))),
+        calls::REFUSAL => refused(refusal_of(number_at(v, 0), size_at(v, 1), byte_at(v, 2))),
         calls::FRAME_READ => read(bytes),
         _ => tx_delta(long_at(v, 0), long_at(v, 1)),
     }

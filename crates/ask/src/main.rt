@@ -11,6 +11,7 @@ mod data_path;
 mod fields;
 mod frames;
 mod items;
+mod judging;
 mod lend;
 mod lines;
 mod numbers;

@@ -151,11 +151,12 @@ pub(crate) fn yes_or_no(answer: bool) -> Said {
     one(0)
 }
 
+// The number beside a refusal is the channel that one of them carries.
 pub(crate) fn refused(why: Refusal) -> Said {
     Said {
         why: why.number() as u64,
         offset: why.offset() as u64,
-        number: 0,
+        number: why.channel() as u64,
         record: none(),
     }
 }

@@ -2,7 +2,7 @@ ghost use mathlib.Core.Path.{_≡_};
 ghost use Rattle.wire.specs.Said.{saidSize};
 ghost use Rattle.channel.specs.Channels.{encodingOf, entrySize, sizeOfEncoding};
 ghost use Rattle.channel.specs.Channels.{supportChannel, channelBandwidth, band, keptFlags};
-ghost use Rattle.channel.specs.Channels.{correctedLegacy, corrected};
+ghost use Rattle.channel.specs.Channels.{correctedLegacy, correctedIn, corrected};
 ghost use Rattle.channel.specs.Said.{saidEncoding, saidCorrected};
 use wire::Refusal;
 use wire::Size;
@@ -53,7 +53,18 @@ impl ChannelEncoding {
         }
     }
 
-    // The same for an encoding as it stands on the wire.
+    // The channel that the two bytes of an entry stand for: a legacy channel is moved to its primary one.
+    pub fn corrected(self, first: u8, second: u8) -> u8
+        ensures { λ r. ⌜ r ≡ correctedIn self first second ⌝ }
+    {
+        match self {
+            ChannelEncoding::Simple => first,
+            ChannelEncoding::Legacy => corrected_legacy(LegacyFlags(first), second),
+            ChannelEncoding::OpClass => first,
+        }
+    }
+
+    // The bytes that one channel takes, for an encoding as it stands on the wire.
     pub fn size(encoding: u8) -> Size
         ensures { λ r. ⌜ saidSize r ≡ sizeOfEncoding encoding ⌝ }
     {
@@ -112,21 +123,15 @@ pub enum Corrected {
 }
 
 impl Channel {
-    // What a report names: a legacy channel is moved to its primary one.
+    // What a report names.
     pub fn channel(self) -> Corrected
         ensures { λ r. ⌜ saidCorrected r ≡ corrected self ⌝ }
     {
-        let first = self.first;
-        let second = self.second;
         match ChannelEncoding::from_bits(self.encoding) {
-            FoundEncoding::Known(known) => match known {
-                ChannelEncoding::Simple => Corrected::Channel(first),
-                ChannelEncoding::Legacy => Corrected::Channel(corrected_legacy(
-                    LegacyFlags(first),
-                    second,
-                )),
-                ChannelEncoding::OpClass => Corrected::Channel(first),
-            },
+            FoundEncoding::Known(known) => Corrected::Channel(known.corrected(
+                self.first,
+                self.second,
+            )),
             FoundEncoding::Refused(why) => Corrected::Refused(why),
         }
     }

@@ -17,6 +17,8 @@ use Rattle.channel.proofs.Once.{onceEncoding, onceCorrected}
 use Rattle.channel_sequence.proofs.Once.{onceConsistent, onceEntry}
 use Rattle.data_path_fields.specs.Said.{saidHead, saidBody}
 use Rattle.data_path_fields.specs.Outcomes.{zeroHead, zeroBody}
+use Rattle.channel_judge.specs.Said.{saidProposal, saidLoad}
+use Rattle.channel_judge.proofs.Once.{onceProposal, onceLoad}
 use Rattle.data_path_fields.proofs.Once.{onceHead, onceBody}
 use Rattle.data_path_state.specs.Said.{saidDataPath}
 use Rattle.data_path_state.specs.Outcomes.{zeroDataPath}
@@ -30,7 +32,7 @@ use Rattle.action_frame.specs.Said.{saidFrame}
 use Rattle.action_frame.proofs.Laid.{header-laid}
 use Rattle.action_frame.proofs.Once.{onceFrame}
 use Rattle.promises.proofs.InFrames.{short-in-frame}
-use Rattle.promises.proofs.Refusing.{numbers-exactly, numbers-apart, reader-offset, call-offset, reader-answers, call-answers, refused-buffer, short-buffer}
+use Rattle.promises.proofs.Refusing.{numbers-exactly, numbers-apart, no-channel, reader-offset, call-offset, reader-answers, call-answers, judgement-answers, refused-buffer, short-buffer}
 use Rattle.promises.specs.Demand1.{Demand1}
 
 pub demand1 : Demand1
@@ -38,6 +40,7 @@ demand1 =
     record {
       numbers = numbers-exactly;
       apart = numbers-apart;
+      carried = no-channel;
       reader-offsets = reader-offset;
       call-offsets = call-offset;
       field-offset = λ n. short-exactly (field-lawful n);
@@ -67,6 +70,9 @@ demand1 =
       entry = call-answers saidEntry (hop zeroChannel) (λ a b e. onceEntry e refl);
       sequence = λ at. record { refuses = λ why. refl; zero = λ why. refl };
       made = record { refuses = λ why. refl; zero = λ why. refl };
+      judgement = judgement-answers;
+      proposal = call-answers saidProposal 0 (λ a b e. onceProposal e refl);
+      load = call-answers saidLoad 0 (λ a b e. onceLoad e refl);
       head = reader-answers saidHead zeroHead 0 (λ a b e. onceHead e refl);
       body = λ at. reader-answers saidBody zeroBody at (λ a b e. onceBody e refl);
       data-path = reader-answers saidDataPath zeroDataPath 0 (λ a b e. onceDataPath e refl);

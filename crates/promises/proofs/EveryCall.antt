@@ -4,7 +4,7 @@ use mathlib.Core.Path.{_≡_}
 use denote.Ref.{now}
 use Prim.Native.Nat.{_+_, _*_, min}
 use lib.ListN.{length, replicate}
-use Rattle.wire.specs.Refusals.{numberOf, offsetOf}
+use Rattle.wire.specs.Refusals.{numberOf, offsetOf, carriedChannel}
 use Rattle.wire.specs.Reading.{field}
 use Rattle.wire.specs.ShortFields.{firstShort}
 use Rattle.wire.specs.Answer.{answer, placeOf}
@@ -18,11 +18,13 @@ use Rattle.text.specs.Text.{decimal, hex}
 use Rattle.text.specs.Words.{says, decimalOf, hexOf}
 use Rattle.text.specs.Said.{saidDecimal}
 use Rattle.text.specs.Into.{PutSaid, TellsSame}
-use Rattle.channel.specs.Channels.{encodingOf, entrySize, sizeOfEncoding, keptFlags, supportChannel, channelBandwidth, band, corrected}
+use Rattle.channel.specs.Channels.{encodingOf, entrySize, sizeOfEncoding, keptFlags, supportChannel, channelBandwidth, band, correctedIn, corrected}
 use Rattle.channel_sequence.specs.Sequences as Q
 use Rattle.channel_sequence.specs.SequenceReader.{sequence}
 use Rattle.channel_sequence.specs.Hops.{hopAt}
 use Rattle.channel_sequence.specs.Conversion.{toSimple}
+use Rattle.channel_judge.specs.Judging.{judged, proposed, loadIn}
+use Rattle.channel_judge.specs.Said.{saidJudgement, saidProposal, saidLoad}
 use Rattle.channel_sequence_tlv.specs.SequenceTLVs as C
 use Rattle.channel_sequence_tlv.specs.SequenceTLVReader.{channelSequence}
 use Rattle.channel.specs.Said.{saidEncoding, saidCorrected}
@@ -59,6 +61,7 @@ use Rattle.channel.proofs.channel.ChannelEncoding as encodings
 use Rattle.channel.proofs.channel.LegacyFlags as flags
 use Rattle.channel.proofs.channel.Channel as channels
 use Rattle.channel_sequence.proofs.channel_sequence.ChannelSequence as sequences
+use Rattle.channel_judge.proofs as judges
 use Rattle.channel_sequence_tlv.proofs.channel_sequence_tlv.ChannelSequenceTLV as channel-sequences
 use Rattle.data_path_words.proofs as bits
 use Rattle.data_path_fields.proofs as fields
@@ -112,6 +115,8 @@ pub record EveryCall : Type 2 where
       (λ κs a r e. r ≡ numberOf (a .0))
   pub refusal-offset : Call refusals.offset.Symbol.routine refusals.offset.ended
       (λ κs a r e. r ≡ offsetOf (a .0))
+  pub refusal-channel : Call refusals.channel.Symbol.routine refusals.channel.ended
+      (λ κs a r e. r ≡ carriedChannel (a .0))
   -- text: decimal and hex, put down and taken from a word
   pub text-put-decimal : Call text.put_decimal.Symbol.routine text.put_decimal.ended
       (λ κs a r e. Put (now (a .0)) (a .1 .0) (decimal (a .1 .1 .0)) r (now (e .0)))
@@ -130,6 +135,8 @@ pub record EveryCall : Type 2 where
       (λ κs a r e. saidEncoding r ≡ encodingOf (a .0))
   pub encoding-entry-size : Call encodings.entry_size.Symbol.routine encodings.entry_size.ended
       (λ κs a r e. r ≡ entrySize (a .0))
+  pub encoding-corrected : Call encodings.corrected.Symbol.routine encodings.corrected.ended
+      (λ κs a r e. r ≡ correctedIn (a .0) (a .1 .0) (a .1 .1 .0))
   pub encoding-size : Call encodings.size.Symbol.routine encodings.size.ended
       (λ κs a r e. saidSize r ≡ sizeOfEncoding (a .0))
   pub legacy-flags-from-bits : Call flags.from_bits.Symbol.routine flags.from_bits.ended
@@ -142,7 +149,7 @@ pub record EveryCall : Type 2 where
       (λ κs a r e. r ≡ band (a .0 .0))
   pub corrected-channel : Call channels.channel.Symbol.routine channels.channel.ended
       (λ κs a r e. saidCorrected r ≡ corrected (a .0))
-  -- channel sequences, their entries, and their records
+  -- channel sequences, their entries, which channel to move to, and their records
   pub sequence-read : Call sequences.read.Symbol.routine sequences.read.ended
       (λ κs a r e. r ≡ sequenceRead (sequence (a .1 .1 .0) (now (a .0)) (a .1 .0)))
   pub sequence-consistent : Call sequences.consistent.Symbol.routine sequences.consistent.ended
@@ -159,6 +166,12 @@ pub record EveryCall : Type 2 where
       (λ κs a r e. saidEntry r ≡ hopAt (a .0) (a .1 .0))
   pub sequence-write : Call sequences.write.Symbol.routine sequences.write.ended
       (λ κs a r e. Wrote (now (a .1 .0)) (Q.bytesOf (a .0)) (saidSize r) (now (e .1 .0)))
+  pub judge : Call judges.judge.Symbol.routine judges.judge.ended
+      (λ κs a r e. saidJudgement r ≡ judged (now (a .0)) (now (a .1 .0)) (a .1 .1 .0))
+  pub own-proposal : Call judges.own_proposal.Symbol.routine judges.own_proposal.ended
+      (λ κs a r e. saidProposal r ≡ proposed (now (a .0)) (now (a .1 .0)))
+  pub channel-load : Call judges.channel_load.Symbol.routine judges.channel_load.ended
+      (λ κs a r e. saidLoad r ≡ loadIn (now (a .0)) (a .1 .0))
   pub channel-sequence-read : Call channel-sequences.read.Symbol.routine channel-sequences.read.ended
       (λ κs a r e. r ≡ channelSequenceRead (channelSequence (now (a .0)) (a .1 .0)))
   pub channel-sequence-consistent : Call channel-sequences.consistent.Symbol.routine channel-sequences.consistent.ended
@@ -280,6 +293,7 @@ every-call =
       within = λ M. wire.within.Met.met;
       refusal-number = λ M. refusals.number.Met.met;
       refusal-offset = λ M. refusals.offset.Met.met;
+      refusal-channel = λ M. refusals.channel.Met.met;
       text-put-decimal = λ M. text.put_decimal.Met.met;
       text-put-hex = λ M. text.put_hex.Met.met;
       text-decimal-of = λ M. text.decimal_of.Met.met;
@@ -288,6 +302,7 @@ every-call =
       text-same = λ M. text.same.Met.met;
       encoding-from-bits = λ M. encodings.from_bits.Met.met;
       encoding-entry-size = λ M. encodings.entry_size.Met.met;
+      encoding-corrected = λ M. encodings.corrected.Met.met;
       encoding-size = λ M. encodings.size.Met.met;
       legacy-flags-from-bits = λ M. flags.from_bits.Met.met;
       legacy-flags-support-channel = λ M. flags.support_channel.Met.met;
@@ -302,6 +317,9 @@ every-call =
       sequence-written-size = λ M. sequences.written_size.Met.met;
       sequence-entry = λ M. sequences.entry.Met.met;
       sequence-write = λ M. sequences.write.Met.met;
+      judge = λ M. judges.judge.Met.met;
+      own-proposal = λ M. judges.own_proposal.Met.met;
+      channel-load = λ M. judges.channel_load.Met.met;
       channel-sequence-read = λ M. channel-sequences.read.Met.met;
       channel-sequence-consistent = λ M. channel-sequences.consistent.Met.met;
       channel-sequence-head = λ M. channel-sequences.head.Met.met;

@@ -10,6 +10,7 @@ pub mod InFrames
 pub mod Demand1
 pub mod RoundTrips
 pub mod Conversions
+pub mod WhichChannel
 pub mod EndToEnd
 pub mod Archives
 pub mod Demand2

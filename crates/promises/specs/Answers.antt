@@ -5,7 +5,7 @@ use mathlib.Core.List.{List}
 use lib.ListN.{take, drop}
 use Rattle.wire.specs.declared.refusal.Refusal.{Refusal}
 use Rattle.wire.specs.declared.refusal.Refusal.the-variants.{Short}
-use Rattle.wire.specs.Refusals.{numberOf, offsetOf}
+use Rattle.wire.specs.Refusals.{numberOf, offsetOf, carriedChannel}
 use Rattle.wire.specs.Reading.{Reader, refused}
 use Rattle.wire.specs.Outcomes.{Outcome, Result}
 use Rattle.tlv_items.specs.declared.item.Item.{Item}
@@ -21,6 +21,10 @@ refusedOutcome nothing why = record { number = numberOf why; offset = offsetOf w
 
 abbrev pub refusedResult : {A : Type 0} → A → Refusal → Result A
 refusedResult nothing why = record { number = numberOf why; offset = offsetOf why; value = nothing }
+
+-- of the judge, with the channel that one refusal carries
+abbrev pub refusedJudgement : Refusal → Result ℕ
+refusedJudgement why = record { number = numberOf why; offset = offsetOf why; value = carriedChannel why }
 
 -- no two answers say the same
 abbrev pub Once : {T S : Type 0} → (T → S) → Type 0

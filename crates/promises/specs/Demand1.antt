@@ -8,7 +8,7 @@ use mathlib.Core.Logic.{_↔_, _⊎_}
 use lib.ListN.{length}
 use Rattle.wire.specs.declared.refusal.Refusal.{Refusal}
 use Rattle.wire.specs.declared.refusal.Refusal.the-variants.{Short}
-use Rattle.wire.specs.Refusals.{numberOf, offsetOf}
+use Rattle.wire.specs.Refusals.{numberOf, offsetOf, carriedChannel}
 use Rattle.wire.specs.Reading.{Reading, refused, field}
 use Rattle.wire.specs.ShortFields.{ShortExactly, firstShort}
 use Rattle.wire.specs.Numbers.{number}
@@ -34,6 +34,8 @@ use Rattle.channel_sequence_tlv.specs.Said.{channelSequenceRead}
 use Rattle.channel.specs.Outcomes.{resultEncoding, resultCorrected}
 use Rattle.channel_sequence.specs.Outcomes.{resultConsistent, resultEntry, outcomeSequence, resultMade}
 use Rattle.channel_sequence_tlv.specs.Outcomes.{outcomeChannelSequence}
+use Rattle.channel_judge.specs.Said.{saidJudgement, saidProposal, saidLoad}
+use Rattle.channel_judge.specs.Outcomes.{resultJudgement, resultProposal, resultLoad}
 use Rattle.data_path_fields.specs.Fields.{head, body}
 use Rattle.data_path_fields.specs.Said.{saidHead, saidBody}
 use Rattle.data_path_fields.specs.Outcomes.{zeroHead, zeroBody, outcomeHead, outcomeBody}
@@ -49,12 +51,14 @@ use Rattle.tlvs.specs.Said.{saidFoundDataPath}
 use Rattle.action_frame.specs.Frames.{header, zeroFrame}
 use Rattle.action_frame.specs.Said.{saidFrame}
 use Rattle.action_frame.specs.Outcomes.{outcomeFrame}
-use Rattle.promises.specs.Answers.{refusedOutcome, refusedResult, Once, Answering, HeldBeside, ShortInFrame}
+use Rattle.promises.specs.Answers.{refusedOutcome, refusedResult, refusedJudgement, Once, Answering, HeldBeside, ShortInFrame}
 
 pub record Demand1 : Type 1 where
-  -- the numbers of refusals are 1 to 8, 10, 18 and 19: no refusal has another, and each of these is the number of one; number and offset tell which refusal it is
-  pub numbers : (n : ℕ) → ((why : Refusal) × (numberOf why ≡ n)) ↔ (((1 ≤ n) × (n ≤ 8)) ⊎ ((n ≡ 10) ⊎ ((n ≡ 18) ⊎ (n ≡ 19))))
-  pub apart : (why other : Refusal) → numberOf why ≡ numberOf other → offsetOf why ≡ offsetOf other → why ≡ other
+  -- the numbers of refusals are 1 to 8, 10, 18, 19 and 27 to 30: no refusal has another, and each of these is the number of one; number, offset and channel tell
+  -- which refusal it is, and none but 30 carries a channel
+  pub numbers : (n : ℕ) → ((why : Refusal) × (numberOf why ≡ n)) ↔ (((1 ≤ n) × (n ≤ 8)) ⊎ ((n ≡ 10) ⊎ ((n ≡ 18) ⊎ ((n ≡ 19) ⊎ ((27 ≤ n) × (n ≤ 30))))))
+  pub apart : (why other : Refusal) → numberOf why ≡ numberOf other → offsetOf why ≡ offsetOf other → carriedChannel why ≡ carriedChannel other → why ≡ other
+  pub carried : (why : Refusal) → ¬ (numberOf why ≡ 30) → carriedChannel why ≡ 0
   -- whatever does not stand for the number 1, a success too, stands for the offset 0
   pub reader-offsets : {A : Type 0} (nothing : A) (at : ℕ) (r : Reading A) → ¬ (outcome nothing at r .number ≡ 1) → outcome nothing at r .offset ≡ 0
   pub call-offsets : {A : Type 0} (nothing : A) (a : Answer A) → ¬ (result nothing a .number ≡ 1) → result nothing a .offset ≡ 0
@@ -93,6 +97,10 @@ pub record Demand1 : Type 1 where
   pub entry : Answering saidEntry refusal resultEntry (refusedResult (hop zeroChannel))
   pub sequence : (at : ℕ) → HeldBeside sequenceRead refused (outcomeSequence at) (refusedOutcome zeroSequence) (λ r. r .sequence) zeroSequence
   pub made : HeldBeside sequenceMade refusal resultMade (refusedResult zeroSequence) (λ r. r .sequence) zeroSequence
+  -- of the judge, whose refusal 30 alone comes with our own proposal, of that proposal, and of a load
+  pub judgement : Answering saidJudgement refusal resultJudgement refusedJudgement
+  pub proposal : Answering saidProposal refusal resultProposal (refusedResult 0)
+  pub load : Answering saidLoad refusal resultLoad (refusedResult 0)
   -- of the three records and the header, and of the two parts in which a data path record is read
   pub head : Answering saidHead refused outcomeHead (refusedOutcome zeroHead)
   pub body : (at : ℕ) → Answering saidBody refused (outcomeBody at) (refusedOutcome zeroBody)

@@ -10,11 +10,13 @@ use Rattle.wire.specs.Outcomes.{Outcome, outcome, Result, result}
 use Rattle.wire.specs.Writing.{within, lengthOf, afterwards}
 use Rattle.channel_sequence.specs.declared.channel_sequence.ChannelSequence.{ChannelSequence}
 use Rattle.channel_sequence.specs.Sequences as Q
-use Rattle.channel_sequence.specs.Sequences.{zeroSequence}
+use Rattle.channel_sequence.specs.Sequences.{zeroSequence, times}
 use Rattle.channel_sequence.specs.Conversion.{toSimple}
 use Rattle.channel_sequence_tlv.specs.declared.channel_sequence_tlv.ChannelSequenceTLV.{ChannelSequenceTLV}
 use Rattle.channel_sequence_tlv.specs.SequenceTLVs as C
 use Rattle.channel.specs.Channels.{corrected}
+use Rattle.channel_judge.specs.Judging.{judged, proposed, loadIn}
+use Rattle.channel_judge.specs.Outcomes.{judgedResult}
 use Rattle.data_path_words.specs.declared.misc.DataPathChannel.{DataPathChannel}
 use Rattle.data_path_fields.specs.declared.fields.CountryCode.{CountryCode}
 use Rattle.data_path_fields.specs.declared.fields.OptionalChannel.{OptionalChannel}
@@ -30,6 +32,7 @@ use Rattle.action_frame.specs.Frames.{header, tailOf, zeroFrame}
 use Rattle.synchronization_parameters.specs.declared.synchronization_parameters_tlv.SynchronizationParametersTLV.{SynchronizationParametersTLV}
 use Rattle.synchronization_parameters.specs.SynchronizationReader.{synchronization, zeroSynchronization}
 use Rattle.synchronization_parameters.specs.SynchronizationBytes as S
+use Rattle.promises.specs.WhichChannel.{laid}
 
 -- what is written of what is read
 abbrev pub readAndWritten : {A : Type 0} → (A → Answer (List ℕ)) → Reading A → Answer (List ℕ)
@@ -91,10 +94,14 @@ pub data Row : Type 0 where
   channelSequenceInto : ChannelSequence → List ℕ → AnswerAndBuffer → Row
   syncInto : ChannelSequence → List ℕ → AnswerAndBuffer → Row
   conversion : ChannelSequence → Result ChannelSequence → Row
+  judging : List ChannelSequence → List ℕ → ℕ → Result ℕ → Row
+  judgingLent : List ℕ → List ℕ → ℕ → Result ℕ → Row
+  proposing : List ChannelSequence → List ℕ → Result ℕ → Row
+  loading : List ChannelSequence → ℕ → Result ℕ → Row
 
 -- a data path value is read, or read and written again; so is a frame's header, written with its tail, and a synchronization value; a tail is
 -- walked; the channel of legacy flags and a channel is corrected; a sequence is written into a buffer, by itself or in one of the two records that hold one;
--- a legacy sequence is converted
+-- a legacy sequence is converted; a proposal is judged, by sequences laid one behind the other or by bytes as they are lent, our own is asked for, and a load
 abbrev pub Holds : Row → Type 0
 Holds (value bytes expected) = outcome zeroDataPath 0 (dataPath bytes 0) ≡ expected
 Holds (again bytes expected) = result [] (readAndWritten D.bytesOf (dataPath bytes 0)) ≡ expected
@@ -108,6 +115,10 @@ Holds (sequenceInto q s expected) = writtenInto s (Q.bytesOf q) ≡ expected
 Holds (channelSequenceInto q s expected) = writtenInto s (C.bytesOf (holdingSequence q)) ≡ expected
 Holds (syncInto q s expected) = writtenInto s (S.bytesOf (syncHolding q)) ≡ expected
 Holds (conversion q expected) = result zeroSequence (toSimple q) ≡ expected
+Holds (judging sequences permitted proposal expected) = judgedResult (judged (laid sequences) permitted proposal) ≡ expected
+Holds (judgingLent s permitted proposal expected) = judgedResult (judged s permitted proposal) ≡ expected
+Holds (proposing sequences permitted expected) = result 0 (proposed (laid sequences) permitted) ≡ expected
+Holds (loading sequences channel expected) = result 0 (loadIn (laid sequences) channel) ≡ expected
 
 abbrev pub AllHold : List Row → Type 0
 AllHold [] = Unit {0}
@@ -287,4 +298,72 @@ legacyRows =
     ∷ conversion (pairs36 3) (notConverted 5)
     ∷ conversion largeFlags (notConverted 7)
     ∷ conversion (legacyWith 0x41 0) (notConverted 7)
+    ∷ []
+
+-- sequences that hop over one channel: simple ones, which may hold another in the bytes that they do not use, and those of pairs
+abbrev pub simpleBeside : ℕ → ℕ → ChannelSequence
+simpleBeside channel unused = record { encoding = 0; bytes = replicate 16 channel ++ replicate 16 unused }
+
+abbrev pub simpleOver : ℕ → ChannelSequence
+simpleOver channel = simpleBeside channel 0
+
+abbrev pub pairsOf : ℕ → ℕ → ℕ → ChannelSequence
+pairsOf encoding one other = record { encoding = encoding; bytes = times 16 (one ∷ other ∷ []) }
+
+abbrev pub unlisted : ChannelSequence
+unlisted = pairsOf 2 36 36
+
+abbrev pub accepting : Result ℕ
+accepting = record { number = 0; offset = 0; value = 0 }
+
+abbrev pub refusing : ℕ → Result ℕ
+refusing n = record { number = n; offset = 0; value = 0 }
+
+abbrev pub showing : ℕ → Result ℕ
+showing own = record { number = 30; offset = 0; value = own }
+
+abbrev pub gives : ℕ → Result ℕ
+gives n = record { number = 0; offset = 0; value = n }
+
+-- no sequence, one, and as many as there may be and one more; the same of channels; loads that are equal, and a list that names a channel again; legacy entries whose
+-- correction lands on a channel of the list, also past either end; bytes that no entry uses; a last sequence of encoding 2 with nothing else wrong and with each
+-- other thing wrong; slices that end inside a sequence
+unfoldable pub judgeRows : List Row
+judgeRows =
+    judging [] (36 ∷ 40 ∷ []) 40 accepting
+    ∷ proposing [] (36 ∷ 40 ∷ []) (gives 36)
+    ∷ judging (replicate 1 (simpleOver 36)) (36 ∷ 40 ∷ []) 40 accepting
+    ∷ judging (replicate 1 (simpleOver 36)) (36 ∷ 40 ∷ []) 36 (showing 40)
+    ∷ judging (replicate 64 (simpleOver 36)) (36 ∷ 40 ∷ []) 36 (showing 40)
+    ∷ loading (replicate 64 (simpleOver 36)) 36 (gives 1024)
+    ∷ judging (replicate 65 (simpleOver 36)) (36 ∷ 40 ∷ []) 40 (refusing 27)
+    ∷ loading (replicate 65 (simpleOver 36)) 36 (refusing 27)
+    ∷ judging (replicate 1 (simpleOver 36)) [] 36 (refusing 28)
+    ∷ proposing (replicate 1 (simpleOver 36)) [] (refusing 28)
+    ∷ judging (replicate 1 (simpleOver 36)) (36 ∷ []) 36 accepting
+    ∷ judging (replicate 1 (simpleOver 36)) (replicate 15 36 ++ (40 ∷ [])) 36 (showing 40)
+    ∷ judging (replicate 1 (simpleOver 36)) (replicate 16 36 ++ (40 ∷ [])) 40 (refusing 27)
+    ∷ judging (replicate 1 (simpleOver 36)) (36 ∷ 40 ∷ []) 44 (refusing 29)
+    ∷ proposing (replicate 1 (simpleOver 36)) (36 ∷ 44 ∷ 40 ∷ []) (gives 44)
+    ∷ judging (replicate 1 (simpleOver 36)) (36 ∷ 44 ∷ 40 ∷ []) 40 accepting
+    ∷ proposing (simpleOver 36 ∷ simpleOver 40 ∷ []) (40 ∷ 36 ∷ 40 ∷ []) (gives 40)
+    ∷ judging (simpleOver 36 ∷ simpleOver 40 ∷ simpleOver 40 ∷ []) (40 ∷ 36 ∷ 40 ∷ []) 40 (showing 36)
+    ∷ judging (replicate 1 (pairsOf 1 1 38)) (36 ∷ 38 ∷ []) 36 (showing 38)
+    ∷ judging (replicate 1 (pairsOf 1 2 34)) (36 ∷ 34 ∷ []) 36 (showing 34)
+    ∷ judging (replicate 1 (pairsOf 1 1 0)) (254 ∷ 0 ∷ []) 254 (showing 0)
+    ∷ judging (replicate 1 (pairsOf 1 1 1)) (255 ∷ 1 ∷ []) 255 (showing 1)
+    ∷ judging (replicate 1 (pairsOf 1 2 254)) (0 ∷ 254 ∷ []) 0 (showing 254)
+    ∷ judging (replicate 1 (pairsOf 1 2 255)) (1 ∷ 255 ∷ []) 1 (showing 255)
+    ∷ judging (replicate 1 (pairsOf 1 0xC1 38)) (36 ∷ 38 ∷ []) 36 (showing 38)
+    ∷ judging (replicate 1 (pairsOf 3 36 40)) (36 ∷ 40 ∷ []) 36 (showing 40)
+    ∷ judging (replicate 1 (simpleBeside 36 40)) (36 ∷ 40 ∷ []) 36 (showing 40)
+    ∷ judging (simpleOver 36 ∷ unlisted ∷ []) (36 ∷ []) 36 (refusing 5)
+    ∷ judging (replicate 64 (simpleOver 36) ++ (unlisted ∷ [])) (36 ∷ []) 36 (refusing 27)
+    ∷ judging (simpleOver 36 ∷ unlisted ∷ []) (replicate 17 36) 36 (refusing 27)
+    ∷ judging (simpleOver 36 ∷ unlisted ∷ []) [] 36 (refusing 5)
+    ∷ judging (simpleOver 36 ∷ unlisted ∷ []) (36 ∷ 40 ∷ []) 44 (refusing 5)
+    ∷ judging (simpleOver 36 ∷ unlisted ∷ []) (36 ∷ 40 ∷ []) 36 (refusing 5)
+    ∷ judgingLent (laid (replicate 1 (simpleOver 36)) ++ (0 ∷ [])) (36 ∷ []) 36 (record { number = 1; offset = 33; value = 0 })
+    ∷ judgingLent (laid (replicate 65 (simpleOver 36)) ++ (2 ∷ [])) [] 36 (record { number = 1; offset = 2145; value = 0 })
+    ∷ judgingLent (replicate 32 0) (36 ∷ []) 36 (record { number = 1; offset = 0; value = 0 })
     ∷ []

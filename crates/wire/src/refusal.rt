@@ -1,5 +1,5 @@
 ghost use mathlib.Core.Path.{_≡_};
-ghost use Rattle.wire.specs.Refusals.{numberOf, offsetOf};
+ghost use Rattle.wire.specs.Refusals.{numberOf, offsetOf, carriedChannel};
 
 // Why a call refuses. Every crate answers with one of these.
 pub enum Refusal {
@@ -26,6 +26,14 @@ pub enum Refusal {
     LegacySequence,
     // The correction of a legacy channel passes below 0 or above 255.
     CorrectedChannel,
+    // There are more than 64 sequences, or more than 16 permitted channels, to judge by.
+    TooMany,
+    // No channel is permitted.
+    NonePermitted,
+    // The proposed channel is not a permitted one.
+    NotPermitted,
+    // A permitted channel has a smaller load than the proposed one. The channel is our own proposal.
+    SmallerLoad(u8),
 }
 
 impl Refusal {
@@ -45,6 +53,10 @@ impl Refusal {
             Refusal::ChannelCount => 10,
             Refusal::LegacySequence => 18,
             Refusal::CorrectedChannel => 19,
+            Refusal::TooMany => 27,
+            Refusal::NonePermitted => 28,
+            Refusal::NotPermitted => 29,
+            Refusal::SmallerLoad(_) => 30,
         }
     }
 
@@ -65,6 +77,33 @@ impl Refusal {
             Refusal::ChannelCount => 0,
             Refusal::LegacySequence => 0,
             Refusal::CorrectedChannel => 0,
+            Refusal::TooMany => 0,
+            Refusal::NonePermitted => 0,
+            Refusal::NotPermitted => 0,
+            Refusal::SmallerLoad(_) => 0,
+        }
+    }
+
+    // Our own proposal beside the refusal of another. Nothing else that is refused has a channel, and all others have 0.
+    pub fn channel(self) -> u8
+        ensures { λ r. ⌜ r ≡ carriedChannel self ⌝ }
+    {
+        match self {
+            Refusal::Short(_) => 0,
+            Refusal::NotAction => 0,
+            Refusal::NotVersion => 0,
+            Refusal::UnicastLength => 0,
+            Refusal::Encoding => 0,
+            Refusal::NoRoom => 0,
+            Refusal::Inconsistent => 0,
+            Refusal::TooLong => 0,
+            Refusal::ChannelCount => 0,
+            Refusal::LegacySequence => 0,
+            Refusal::CorrectedChannel => 0,
+            Refusal::TooMany => 0,
+            Refusal::NonePermitted => 0,
+            Refusal::NotPermitted => 0,
+            Refusal::SmallerLoad(own) => own,
         }
     }
 }

@@ -1,0 +1,4 @@
+pub mod Counters
+pub mod Loaded
+pub mod Least
+pub mod Once
