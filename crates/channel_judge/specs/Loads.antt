@@ -20,7 +20,7 @@ sequencesFrom (suc many) s = record { encoding = getD s 0 0; bytes = take 32 (dr
 abbrev pub lentSequences : List ℕ → Answer (List ChannelSequence)
 lentSequences s = require (eqb (length s % 33) 0) (Short (33 * (length s / 33))) >> answer (sequencesFrom (length s / 33) s)
 
--- the channel that entry n of a sequence stands for, corrected, and those of some entries from n on
+-- the channel that the bytes of an entry stand for, corrected, and those of some entries from number n on
 abbrev pub correctedEntry : ChannelEncoding → List ℕ → ℕ
 correctedEntry encoding entry = correctedIn encoding (getD entry 0 0) (getD entry 1 0)
 

@@ -1,4 +1,4 @@
-// Which channel the dosing computers move to: judged by how often the tablets hop over each.
+// Which channel the dosing computers move to: judged by how often the tablets hop to each.
 mod channel_judge;
 mod loads;
 

@@ -74,7 +74,7 @@ fn take_bytes(
     now
 }
 
-// Where a block of the input leaves off, and whether the input has ended, with a read that failed.
+// Where a block of the input leaves off, whether to stop there, and whether that is for a read that failed.
 struct Turn {
     state: State,
     ended: bool,

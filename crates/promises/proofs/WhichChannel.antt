@@ -18,7 +18,7 @@ use Rattle.channel.specs.Channels.{encodingOf}
 use Rattle.channel_sequence.specs.declared.channel_sequence.ChannelSequence.{ChannelSequence}
 use Rattle.channel_sequence.specs.Hops.{entryBytes, entryChannel}
 use Rattle.channel_judge.specs.Loads.{sequencesFrom, lentSequences, correctedEntry, channelsFrom, channelsOf, count, load, isListed, allListed}
-use Rattle.channel_judge.specs.Judging.{loads, isPermitted, noneBelow, first, own, judgedBy, judgedOf, proposedOf, judged, proposed}
+use Rattle.channel_judge.specs.Judging.{loads, isPermitted, noneBelow, first, own, judgedBy, judgedOf, proposedOf, judged, proposed, loadIn}
 use Rattle.channel_judge.proofs.Least.{and-swapped, smaller, leastFrom, own-of, decided-by-own}
 use Rattle.promises.specs.WhichChannel.{CanJudge, Permitted, NoneSmaller, FirstLeast, Touches, Rearranged, as-they-stand, change-places, laid, AllWhole, none, one, WhichChannel}
 
@@ -48,7 +48,6 @@ some-permitted {ps} w = le-leb 1 (length ps) (omega (arith, w .inside))
 -- the first that passes a test, where one does
 record FirstPassing (test : ℕ → Bool) (ps : List ℕ) : Type 0 where
   pub where-it-is : Permitted ps (first test ps)
-  pub passes : test (first test ps) ≡ true
   pub before : (i : ℕ) → i < where-it-is .place → test (getD ps i 0) ≡ false
 
 find : (test : ℕ → Bool) (ps : List ℕ) (i : ℕ) → i < length ps → test (getD ps i 0) ≡ true → FirstPassing test ps
@@ -58,13 +57,12 @@ find test (p ∷ ps) i inside e = go (test p) refl i inside e (find test ps)
     go : (t : Bool) → test p ≡ t → (i : ℕ) → i < length (p ∷ ps) → test (getD (p ∷ ps) i 0) ≡ true
         → ((i : ℕ) → i < length ps → test (getD ps i 0) ≡ true → FirstPassing test ps) → FirstPassing test (p ∷ ps)
     go true h i inside e others =
-        record { where-it-is = record { place = 0; inside = omega arith; stands = rw h }; passes = rw h h; before = λ j less. absurd (omega arith) }
+        record { where-it-is = record { place = 0; inside = omega arith; stands = rw h }; before = λ j less. absurd (omega arith) }
     go false h zero inside e others = absurd (false≢true (sym h ∙ e))
     go false h (suc i) inside e others =
         let w = others i (omega arith) e in
         record {
           where-it-is = record { place = suc (w .where-it-is .place); inside = omega (arith, w .where-it-is .inside); stands = rw h (w .where-it-is .stands) };
-          passes = rw h (w .passes);
           before = λ j less. front j less;
         }
       where
@@ -135,41 +133,46 @@ module _ (f : ℕ → ℕ) where
 can-loads : {qs : List ChannelSequence} {ps : List ℕ} → CanJudge qs ps → loads qs (length ps) ≡ answer (load qs)
 can-loads {qs} {ps} w = rw (le-leb (length qs) 64 (w .sixty-four), le-leb (length ps) 16 (w .sixteen), w .listed)
 
-pub accepted : (qs : List ChannelSequence) (ps : List ℕ) (c : ℕ) → CanJudge qs ps → (judgedOf qs ps c ≡ answer tt) ↔ (Permitted ps c × NoneSmaller qs ps c)
-accepted qs ps c w = (there, back)
-  where
-    there : judgedOf qs ps c ≡ answer tt → Permitted ps c × NoneSmaller qs ps c
-    there e = let a = accepted-by (load qs) ps c (rw (can-loads w) at e) in (permitted-place ps c (a .permitted), none-smaller (load qs) (a .least))
-
-    back : Permitted ps c × NoneSmaller qs ps c → judgedOf qs ps c ≡ answer tt
-    back h = rw (can-loads w) (accept-by (load qs) ps c (permitted-test (h .0)) (none-below (load qs) ps c (h .1)))
-
 -- where there are none, it is for one of two refusals
-data Known (qs : List ChannelSequence) (n : ℕ) : Type 0 where
-  are-known : loads qs n ≡ answer (load qs) → Known qs n
-  too-many : loads qs n ≡ refusal TooMany → Known qs n
-  not-listed : loads qs n ≡ refusal Encoding → Known qs n
+data Known (qs : List ChannelSequence) (ps : List ℕ) : Type 0 where
+  are-known : CanJudge qs ps → Known qs ps
+  too-many : loads qs (length ps) ≡ refusal TooMany → Known qs ps
+  not-listed : loads qs (length ps) ≡ refusal Encoding → Known qs ps
 
-known-loads : (qs : List ChannelSequence) (n : ℕ) → Known qs n
-known-loads qs n = go (leb (length qs) 64 && leb n 16) (allListed qs) refl refl
+known-loads : (qs : List ChannelSequence) (ps : List ℕ) → Known qs ps
+known-loads qs ps = go (leb (length qs) 64 && leb (length ps) 16) (allListed qs) refl refl
   where
-    go : (m l : Bool) → leb (length qs) 64 && leb n 16 ≡ m → allListed qs ≡ l → Known qs n
-    go true true g h = are-known (rw (g, h))
+    go : (m l : Bool) → leb (length qs) 64 && leb (length ps) 16 ≡ m → allListed qs ≡ l → Known qs ps
+    go true true g h =
+        let both = and-eq-true-iff (leb (length qs) 64) (leb (length ps) 16) .0 g in
+        are-known (record { sixty-four = leb-true (length qs) 64 (both .0); sixteen = leb-true (length ps) 16 (both .1); listed = h })
     go true false g h = not-listed (rw (g, h))
     go false l g h = too-many (rw g)
 
+pub accepted : (qs : List ChannelSequence) (ps : List ℕ) (c : ℕ) → (judgedOf qs ps c ≡ answer tt) ↔ (CanJudge qs ps × Permitted ps c × NoneSmaller qs ps c)
+accepted qs ps c = (λ e. there e (known-loads qs ps), back)
+  where
+    there : judgedOf qs ps c ≡ answer tt → Known qs ps → CanJudge qs ps × Permitted ps c × NoneSmaller qs ps c
+    there e (are-known w) =
+        let a = accepted-by (load qs) ps c (rw (can-loads w) at e) in (w, permitted-place ps c (a .permitted), none-smaller (load qs) (a .least))
+    there e (too-many g) = absurd (let e′ = rw g at e in let z : _≡_ {A = ℕ} 0 1 = cc in omega arith)
+    there e (not-listed g) = absurd (let e′ = rw g at e in let z : _≡_ {A = ℕ} 0 1 = cc in omega arith)
+
+    back : CanJudge qs ps × Permitted ps c × NoneSmaller qs ps c → judgedOf qs ps c ≡ answer tt
+    back h = rw (can-loads (h .0)) (accept-by (load qs) ps c (permitted-test (h .1)) (none-below (load qs) ps c (h .2)))
+
 -- our own proposal, where there is one
 record Proposing (qs : List ChannelSequence) (ps : List ℕ) (c : ℕ) : Type 0 where
-  pub known : loads qs (length ps) ≡ answer (load qs)
+  pub can : CanJudge qs ps
   pub some : 0 < length ps
   pub is-own : own (load qs) ps ≡ c
 
 proposing : (qs : List ChannelSequence) (ps : List ℕ) (c : ℕ) → proposedOf qs ps ≡ answer c → Proposing qs ps c
-proposing qs ps c e = go (known-loads qs (length ps)) (leb 1 (length ps)) refl
+proposing qs ps c e = go (known-loads qs ps) (leb 1 (length ps)) refl
   where
-    go : Known qs (length ps) → (s : Bool) → leb 1 (length ps) ≡ s → Proposing qs ps c
-    go (are-known g) true k = record { known = g; some = leb-true 1 (length ps) k; is-own = let e′ = rw (g, k) at e in cc }
-    go (are-known g) false k = absurd (let e′ = rw (g, k) at e in let z : _≡_ {A = ℕ} 0 1 = cc in omega arith)
+    go : Known qs ps → (s : Bool) → leb 1 (length ps) ≡ s → Proposing qs ps c
+    go (are-known w) true k = record { can = w; some = leb-true 1 (length ps) k; is-own = let e′ = rw (can-loads w, k) at e in cc }
+    go (are-known w) false k = absurd (let e′ = rw (can-loads w, k) at e in let z : _≡_ {A = ℕ} 0 1 = cc in omega arith)
     go (too-many g) s k = absurd (let e′ = rw g at e in let z : _≡_ {A = ℕ} 0 1 = cc in omega arith)
     go (not-listed g) s k = absurd (let e′ = rw g at e in let z : _≡_ {A = ℕ} 0 1 = cc in omega arith)
 
@@ -191,16 +194,17 @@ pub own-accepted : (qs : List ChannelSequence) (ps : List ℕ) (c : ℕ) → pro
 own-accepted qs ps c e =
     let p = proposing qs ps c e in
     let w = own-found (load qs) ps (p .some) in
-    rw (← p .is-own, p .known) (accept-by (load qs) ps (own (load qs) ps) (permitted-test (w .where-it-is)) (own-none-below (load qs) ps (p .some)))
+    rw (← p .is-own, can-loads (p .can)) (accept-by (load qs) ps (own (load qs) ps) (permitted-test (w .where-it-is)) (own-none-below (load qs) ps (p .some)))
 
 pub own-shown : (qs : List ChannelSequence) (ps : List ℕ) (c o : ℕ) → judgedOf qs ps c ≡ refusal (SmallerLoad o) → proposedOf qs ps ≡ answer o
-own-shown qs ps c o e = go (known-loads qs (length ps)) (leb 1 (length ps)) (isPermitted c ps) (noneBelow (load qs) ps c) refl refl refl
+own-shown qs ps c o e = go (known-loads qs ps) (leb 1 (length ps)) (isPermitted c ps) (noneBelow (load qs) ps c) refl refl refl
   where
-    go : Known qs (length ps) → (s p n : Bool) → leb 1 (length ps) ≡ s → isPermitted c ps ≡ p → noneBelow (load qs) ps c ≡ n → proposedOf qs ps ≡ answer o
-    go (are-known g) true true false k i j = let e′ = rw (g, k, i, j) at e in let same : own (load qs) ps ≡ o = cc in rw (g, k, same)
-    go (are-known g) true true true k i j = absurd (let e′ = rw (g, k, i, j) at e in let z : _≡_ {A = ℕ} 0 1 = cc in omega arith)
-    go (are-known g) true false n k i j = absurd (let e′ = rw (g, k, i) at e in let z : _≡_ {A = ℕ} 0 1 = cc in omega arith)
-    go (are-known g) false p n k i j = absurd (let e′ = rw (g, k) at e in let z : _≡_ {A = ℕ} 0 1 = cc in omega arith)
+    go : Known qs ps → (s p n : Bool) → leb 1 (length ps) ≡ s → isPermitted c ps ≡ p → noneBelow (load qs) ps c ≡ n → proposedOf qs ps ≡ answer o
+    go (are-known w) true true false k i j =
+        let e′ = rw (can-loads w, k, i, j) at e in let same : own (load qs) ps ≡ o = cc in rw (can-loads w, k, same)
+    go (are-known w) true true true k i j = absurd (let e′ = rw (can-loads w, k, i, j) at e in let z : _≡_ {A = ℕ} 0 1 = cc in omega arith)
+    go (are-known w) true false n k i j = absurd (let e′ = rw (can-loads w, k, i) at e in let z : _≡_ {A = ℕ} 0 1 = cc in omega arith)
+    go (are-known w) false p n k i j = absurd (let e′ = rw (can-loads w, k) at e in let z : _≡_ {A = ℕ} 0 1 = cc in omega arith)
     go (too-many g) s p n k i j = absurd (let e′ = rw g at e in let z : _≡_ {A = ℕ} 0 1 = cc in omega arith)
     go (not-listed g) s p n k i j = absurd (let e′ = rw g at e in let z : _≡_ {A = ℕ} 0 1 = cc in omega arith)
 
@@ -298,12 +302,15 @@ judged-as-lent qs ps c w = rw (as-lent qs w)
 pub proposed-as-lent : (qs : List ChannelSequence) (ps : List ℕ) → AllWhole qs → proposed (laid qs) ps ≡ proposedOf qs ps
 proposed-as-lent qs ps w = rw (as-lent qs w)
 
+pub load-as-lent : (qs : List ChannelSequence) (c : ℕ) → AllWhole qs → CanJudge qs [] → loadIn (laid qs) c ≡ answer (load qs c)
+load-as-lent qs c w can = rw (as-lent qs w, can-loads can)
+
 -- without a sequence
 empty-can : (ps : List ℕ) → length ps ≤ 16 → CanJudge [] ps
 empty-can ps few = record { sixty-four = omega arith; sixteen = few; listed = refl }
 
 pub empty-accepted : (ps : List ℕ) (c : ℕ) → length ps ≤ 16 → Permitted ps c → judgedOf [] ps c ≡ answer tt
-empty-accepted ps c few w = accepted [] ps c (empty-can ps few) .1 (w, λ other p. omega arith)
+empty-accepted ps c few w = accepted [] ps c .1 (empty-can ps few, w, λ other p. omega arith)
 
 pub empty-own : (c : ℕ) (rest : List ℕ) → length rest < 16 → proposedOf [] (c ∷ rest) ≡ answer c
 empty-own c rest few =
@@ -314,6 +321,7 @@ which-channel = record {
   as-lent = as-lent;
   judged-as-lent = judged-as-lent;
   proposed-as-lent = proposed-as-lent;
+  load-as-lent = load-as-lent;
   accepted = accepted;
   own-given = own-given;
   own-first = own-first;

@@ -12,7 +12,7 @@ use Rattle.channel.specs.Channels.{corrected}
 use Rattle.channel_sequence.specs.declared.channel_sequence.ChannelSequence.{ChannelSequence}
 use Rattle.channel_sequence.specs.Hops.{hop, hopAt}
 use Rattle.channel_judge.specs.Loads.{lentSequences, load, allListed}
-use Rattle.channel_judge.specs.Judging.{judgedOf, proposedOf, judged, proposed}
+use Rattle.channel_judge.specs.Judging.{judgedOf, proposedOf, judged, proposed, loadIn}
 
 -- sequences and permitted channels that can be judged by: at most 64, with listed encodings, and at most 16
 pub record CanJudge (sequences : List ChannelSequence) (permitted : List ℕ) : Type 0 where
@@ -54,19 +54,23 @@ abbrev pub laid : List ChannelSequence → List ℕ
 laid [] = []
 laid (q ∷ rest) = q .encoding ∷ (q .bytes ++ laid rest)
 
+-- each has its 32 bytes
 pub data AllWhole : List ChannelSequence → Type 0 where
   none : AllWhole []
   one : {q : ChannelSequence} {rest : List ChannelSequence} → length (q .bytes) ≡ 32 → AllWhole rest → AllWhole (q ∷ rest)
 
 pub record WhichChannel : Type 0 where
-  -- what a caller lays down is what the calls go by; what follows is said of the sequences
+  -- what a caller lays down is what the three calls go by; what follows is said of the sequences
   pub as-lent : (sequences : List ChannelSequence) → AllWhole sequences → lentSequences (laid sequences) ≡ answer sequences
   pub judged-as-lent : (sequences : List ChannelSequence) (permitted : List ℕ) (proposal : ℕ) → AllWhole sequences
       → judged (laid sequences) permitted proposal ≡ judgedOf sequences permitted proposal
   pub proposed-as-lent : (sequences : List ChannelSequence) (permitted : List ℕ) → AllWhole sequences → proposed (laid sequences) permitted ≡ proposedOf sequences permitted
+  pub load-as-lent : (sequences : List ChannelSequence) (channel : ℕ) → AllWhole sequences → CanJudge sequences []
+      → loadIn (laid sequences) channel ≡ answer (load sequences channel)
   -- which proposals pass
-  pub accepted : (sequences : List ChannelSequence) (permitted : List ℕ) (proposal : ℕ) → CanJudge sequences permitted
-      → (judgedOf sequences permitted proposal ≡ answer tt) ↔ (Permitted permitted proposal × NoneSmaller sequences permitted proposal)
+  pub accepted : (sequences : List ChannelSequence) (permitted : List ℕ) (proposal : ℕ)
+      → (judgedOf sequences permitted proposal ≡ answer tt)
+      ↔ (CanJudge sequences permitted × Permitted permitted proposal × NoneSmaller sequences permitted proposal)
   -- we have a proposal of our own wherever something is permitted; it is the first that passes, and the judge lets it pass
   pub own-given : (sequences : List ChannelSequence) (permitted : List ℕ) → CanJudge sequences permitted → 0 < length permitted
       → (channel : ℕ) × (proposedOf sequences permitted ≡ answer channel)
