@@ -13,6 +13,10 @@ use lib.Seq.{drop-cons}
 use borrow.Author.Tests.{leb-true, le-leb, lt-leb, ltb-true, ltb-false}
 use Rattle.channel_judge.specs.Judging.{isPermitted, noneBelow, first, own}
 
+-- the loads as counters hold them
+abbrev pub loadBy : List ℕ → ℕ → ℕ
+loadBy counts channel = getD counts channel 0
+
 pub permitted-step : (s : List ℕ) (channel i : ℕ) → i < length s → isPermitted channel (drop i s) ≡ eqb (getD s i 0) channel || isPermitted channel (drop (i + 1) s)
 permitted-step s channel i h = rw (drop-cons s i 0 h, add-one i)
 

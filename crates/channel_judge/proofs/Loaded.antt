@@ -11,9 +11,10 @@ use lib.ListN.{length, getD, replicate}
 use borrow.Author.Tests.{eq-eqb, ne-eqb, le-leb, lt-leb}
 use Rattle.wire.specs.declared.refusal.Refusal.the-variants.{Short, Encoding, TooMany}
 use Rattle.wire.specs.Answer.{Answer, answer, refusal, _>>=_}
+use Rattle.channel_judge.specs.declared.loads.Counting.{Counting}
 use Rattle.channel_judge.specs.Loads.{sequencesFrom, lentSequences, load, allListed}
 use Rattle.channel_judge.specs.Judging.{loads}
-use Rattle.channel_judge.specs.Counters.{AtMost, Grown, lentLoads}
+use Rattle.channel_judge.specs.Counters.{AtMost, Grown, lentLoads, saidCounting}
 use Rattle.channel_judge.proofs.Counters.{many-sequences}
 
 above : (many channels : ℕ) → (64 < many) ⊎ (16 < channels) → leb many 64 && leb channels 16 ≡ false
@@ -42,9 +43,11 @@ regrouped : {A B C : Type 0} (m : Answer A) (f : A → Answer B) (g : B → Answ
 regrouped (answer a) f g = refl
 regrouped (refusal why) f g = refl
 
-pub goes-on : {B : Type 0} (s : List ℕ) (channels : ℕ) (g : (ℕ → ℕ) → Answer B) {m : Answer (ℕ → ℕ)} → lentLoads s channels ≡ m
-    → (m >>= g) ≡ (lentSequences s >>= (λ sequences. loads sequences channels >>= g))
-goes-on s channels g e = ap (λ (n : Answer (ℕ → ℕ)). n >>= g) (sym e) ∙ regrouped (lentSequences s) (λ sequences. loads sequences channels) g
+pub goes-on : {B : Type 0} (s : List ℕ) (channels : ℕ) (counts : List ℕ) (g : (ℕ → ℕ) → Answer B) {r x : Counting}
+    → saidCounting r counts ≡ lentLoads s channels → r ≡ x → (saidCounting x counts >>= g) ≡ (lentSequences s >>= (λ sequences. loads sequences channels >>= g))
+goes-on s channels counts g e f =
+    ap (λ (m : Answer (ℕ → ℕ)). m >>= g) (sym (ap (λ (c : Counting). saidCounting c counts) f) ∙ e)
+    ∙ regrouped (lentSequences s) (λ sequences. loads sequences channels) g
 
 -- counters that started at 0 and have grown by the loads hold them
 pub held : {before after : List ℕ} {loadOf : ℕ → ℕ} → AtMost 0 before → Grown before loadOf after → (λ (channel : ℕ). getD after channel 0) ≡ loadOf

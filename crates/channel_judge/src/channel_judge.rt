@@ -37,7 +37,7 @@ pub fn judge(sequences: &[u8], permitted: &[u8], proposal: u8) -> Judgement
     }
 }
 
-// Our own proposal.
+// The first channel of the list that the judge accepts.
 pub fn own_proposal(sequences: &[u8], permitted: &[u8]) -> Proposal
     ensures { λ r. ⌜ saidProposal r ≡ proposed (now (sequences .entry)) (now (permitted .entry)) ⌝ }
 {

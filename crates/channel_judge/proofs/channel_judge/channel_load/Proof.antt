@@ -3,9 +3,6 @@
 use Rattle.channel_judge.proofs.channel_judge.channel_load.Statement.{statement}
 use Rattle.channel_judge.proofs.channel_judge.channel_load.Tie as tie
 use Rattle.channel_judge.proofs.Loaded.{goes-on}
-use Rattle.channel_judge.specs.Counters.{saidCounting}
-use Rattle.channel_judge.specs.declared.loads.Counting.{Counting}
-use Rattle.wire.proofs.Once.{told}
 use Rattle.wire.specs.Answer.{answer}
 use borrow.Author.Needs.{needs}
 use mathlib.Core.Path.{sym}
@@ -17,15 +14,13 @@ returns : tie.Need-returns
 returns c =
     let call = c .before .before .before in
     let a = call .before .before .before .before .args in
-    let known = told (λ (r : Counting). saidCounting r (call .count-loads .last .1 .1 .0)) (call .count-loads .ensures) (c .enum-told .given .1) in
-    goes-on (a .sequences .now) 0 (λ loadOf. answer (loadOf (a .channel))) known
+    goes-on (a .sequences .now) 0 (call .count-loads .last .1 .1 .0) (λ loadOf. answer (loadOf (a .channel))) (call .count-loads .ensures) (c .enum-told .given .1)
 
 returns-2 : tie.Need-returns-2
 returns-2 c =
     let call = c .before .before .before .before in
     let a = call .before .before .before .before .args in
-    let known = told (λ (r : Counting). saidCounting r (call .count-loads .last .1 .1 .0)) (call .count-loads .ensures) (c .before .why .given .1) in
-    goes-on (a .sequences .now) 0 (λ loadOf. answer (loadOf (a .channel))) known
+    goes-on (a .sequences .now) 0 (call .count-loads .last .1 .1 .0) (λ loadOf. answer (loadOf (a .channel))) (call .count-loads .ensures) (c .before .why .given .1)
 
 pub channel-load-spec : {M : Type 1} → statement M
 channel-load-spec =

@@ -3,10 +3,7 @@
 use Rattle.channel_judge.proofs.channel_judge.judge.Statement.{statement}
 use Rattle.channel_judge.proofs.channel_judge.judge.Tie as tie
 use Rattle.channel_judge.proofs.Loaded.{goes-on}
-use Rattle.channel_judge.specs.Counters.{saidCounting}
 use Rattle.channel_judge.specs.Judging.{judgedBy}
-use Rattle.channel_judge.specs.declared.loads.Counting.{Counting}
-use Rattle.wire.proofs.Once.{told}
 use borrow.Author.Needs.{needs}
 use lib.ListN.{length}
 use mathlib.Core.Path.{sym, _∙_}
@@ -18,15 +15,13 @@ returns : tie.Need-returns
 returns c =
     let call = c .before .before .before .before .before in
     let a = call .before .before .before .before .before .args in
-    let known = told (λ (r : Counting). saidCounting r (call .count-loads .last .1 .1 .0)) (call .count-loads .ensures) (c .before .before .enum-told .given .1) in
-    c .judge-by .ensures ∙ goes-on (a .sequences .now) (length (a .permitted .now)) (λ loadOf. judgedBy loadOf (a .permitted .now) (a .proposal)) known
+    c .judge-by .ensures ∙ goes-on (a .sequences .now) (length (a .permitted .now)) (call .count-loads .last .1 .1 .0) (λ loadOf. judgedBy loadOf (a .permitted .now) (a .proposal)) (call .count-loads .ensures) (c .before .before .enum-told .given .1)
 
 returns-2 : tie.Need-returns-2
 returns-2 c =
     let call = c .before .before .before .before in
     let a = call .before .before .before .before .before .args in
-    let known = told (λ (r : Counting). saidCounting r (call .count-loads .last .1 .1 .0)) (call .count-loads .ensures) (c .before .why .given .1) in
-    goes-on (a .sequences .now) (length (a .permitted .now)) (λ loadOf. judgedBy loadOf (a .permitted .now) (a .proposal)) known
+    goes-on (a .sequences .now) (length (a .permitted .now)) (call .count-loads .last .1 .1 .0) (λ loadOf. judgedBy loadOf (a .permitted .now) (a .proposal)) (call .count-loads .ensures) (c .before .why .given .1)
 
 pub judge-spec : {M : Type 1} → statement M
 judge-spec =

@@ -1,18 +1,14 @@
 -- `least` meets its contract: the best so far and the channels that are ahead decide.
 -- Assumes nothing.
-use Prim.Native.Nat.{ℕ, _-_, _≤_}
+use Prim.Native.Nat.{_-_, _≤_}
 use Rattle.channel_judge.specs.Judging.{own}
-use Rattle.channel_judge.proofs.Least.{leastFrom, least-step, own-of}
+use Rattle.channel_judge.proofs.Least.{loadBy, leastFrom, least-step, own-of}
 use Rattle.channel_judge.proofs.channel_judge.least.Statement.{statement}
 use Rattle.channel_judge.proofs.channel_judge.least.Tie as tie
 use borrow.Author.Needs.{needs}
-use lib.ListN.{length, getD, drop, drop-of-length-le}
-use mathlib.Core.List.{List}
+use lib.ListN.{length, drop, drop-of-length-le}
 use mathlib.Core.Path.{_≡_, sym, _∙_}
 use native.Mathlib.Omega.{arith}
-
-abbrev loadBy : List ℕ → ℕ → ℕ
-loadBy counts channel = getD counts channel 0
 
 abbrev Inv-loop : tie.InvT-loop
 Inv-loop counts permitted best₀ i₀ best i =
