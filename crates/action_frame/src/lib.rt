@@ -1,4 +1,6 @@
 // The head of an action frame, the part behind it, the offsets of its items' values in it, and the gap between its two stamps.
+#![tactic(auto)]
+
 ghost use Rattle.std.specs.Prelude.{◌≡◌, ◌≤◌, min, length};
 ghost use Rattle.wire.specs.Answer.{answer, place_of};
 ghost use Rattle.wire.specs.Said.{said_place, said_size};

@@ -1,5 +1,7 @@
 // Answers questions, a line each. A program has no exit status, so what fails is said on standard error, where the launcher
 // looks for it.
+#![tactic(auto)]
+
 ghost use Rattle.std.specs.Prelude.{◌≡◌, length};
 
 mod arguments;

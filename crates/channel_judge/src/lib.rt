@@ -1,4 +1,6 @@
 // Which channel the dosing computers move to: judged by how often the tablets hop to each.
+#![tactic(auto)]
+
 mod channel_judge;
 mod loads;
 

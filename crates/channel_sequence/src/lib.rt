@@ -1,4 +1,6 @@
 // The sequence of sixteen channels that a peer hops over.
+#![tactic(auto)]
+
 mod channel_sequence;
 mod conversion;
 

@@ -1,4 +1,6 @@
 // The record that holds a channel sequence.
+#![tactic(auto)]
+
 mod channel_sequence_tlv;
 
 pub use channel_sequence_tlv::{ChannelSequenceTLV, ReadChannelSequence};

@@ -1,5 +1,7 @@
 // The fields of the data path record, and how they are read: the flags, and behind them only the
 // fields that the flags announce.
+#![tactic(auto)]
+
 mod fields;
 mod read;
 

@@ -1,4 +1,6 @@
 // The data path record: flags, and behind them only the fields that the flags announce.
+#![tactic(auto)]
+
 mod consistent;
 mod data_path_state_tlv;
 mod mend;

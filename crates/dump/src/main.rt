@@ -1,5 +1,7 @@
 // Reads one input and writes its report. What is written is made by the library. A program has no exit status, so what fails is
 // said on standard error, where the launcher looks for it.
+#![tactic(auto)]
+
 ghost use Rattle.std.specs.Prelude.{◌≤◌, ◌<◌, ◌≡◌, length};
 ghost use Rattle.io.specs.Counts.{IsPrefixLen};
 

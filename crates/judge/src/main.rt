@@ -1,5 +1,7 @@
 // Judges channels: the input is lines, and each question of it is answered as soon as it has ended. A program has no exit status,
 // so what fails is said on standard error, where the launcher looks for it.
+#![tactic(auto)]
+
 mod parse;
 mod question;
 mod show;

@@ -1,1 +1,3 @@
 // No code: what the library promises stands in specs/ and is proved in proofs/.
+#![tactic(auto)]
+

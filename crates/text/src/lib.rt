@@ -1,4 +1,6 @@
 // Numbers and bytes as text, in both directions.
+#![tactic(auto)]
+
 mod decimal;
 mod hex;
 

@@ -1,5 +1,7 @@
 // Values and records of a frame's items: a step with its value, the reader that holds a tail and a place, and the search for the
 // records of a type. What is known of items themselves is passed on from `tlv_items`.
+#![tactic(auto)]
+
 mod read_tlvs;
 mod search;
 mod values;

@@ -14,7 +14,7 @@ use Rattle.wire.specs.declared.refusal.Refusal.{Refusal}
 use Rattle.wire.specs.declared.write.Size.{Size}
 use Rattle.wire.specs.Answer.{Answer, answer, refusal, ◌>>=◌}
 use Rattle.wire.specs.Said.{said_size}
-use Rattle.wire.specs.Writing.{fits, place_behind, Put, PutIfRoom, within, length_of, Wrote}
+use Rattle.wire.specs.Writing.{fits, Put, PutIfRoom, within, length_of, Wrote}
 use Rattle.wire.proofs.Bytes.{within-room}
 
 pub put-none : (s : List ℕ) (at : ℕ) (bytes : List ℕ) → length s - at < length bytes → Put s at bytes at s
@@ -155,8 +155,8 @@ pub ◌and-then◌ : {s : List ℕ} {at : ℕ} {xs : List ℕ} {mid : ℕ} {t ys
 -- two runs of a field that is there or is not
 pub run-both : (present : Bool) (xs ys : List ℕ) {s : List ℕ} {at mid : ℕ} {t : List ℕ} {next : ℕ} {u : List ℕ}
     → PutIfRoom s at (cond present xs []) mid t → PutIfRoom t mid (cond present ys []) next u → PutIfRoom s at (cond present (xs ++ ys) []) next u
-run-both true xs ys p q = p and_then q
-run-both false xs ys p q = p and_then q
+run-both true xs ys p q = p and-then q
+run-both false xs ys p q = p and-then q
 
 -- from the start on, with each run at its own place
 infixl 20 ◌also◌

@@ -1,5 +1,7 @@
 // What the formats above this crate are read and written with: refusals, little-endian numbers and
 // addresses at a place of a slice, stores into a lent buffer, and the type numbers of items.
+#![tactic(auto)]
+
 mod awdl_tlv_type;
 mod read;
 mod refusal;

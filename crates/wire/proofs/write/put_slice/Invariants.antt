@@ -1,0 +1,12 @@
+-- After i turns the first i bytes stand in the buffer, and all others as before.
+-- Assumes nothing.
+use Rattle.std.proofs.Common.{length, ◌-◌, ◌≡◌, ◌≤◌}
+use lib.Seq.{paste}
+use Rattle.wire.proofs.write.put_slice.Given as goal
+
+abbrev pub invariant-loop-i : goal.invariant-loop-i
+invariant-loop-i l =
+    (l.i ≤ length l.bytes) × (length l.bytes ≤ length l.fn.buf - l.at) × (length l.buf ≡ length l.fn.buf) × (l.buf ≡ paste l.fn.buf l.at l.bytes l.i)
+
+abbrev pub decreases-loop-i : goal.decreases-loop-i
+decreases-loop-i l = l.n - l.i
