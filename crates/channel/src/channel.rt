@@ -29,6 +29,7 @@ impl ChannelEncoding {
     pub const LEGACY: u8 = 1;
 
     // The one place that tells a listed encoding from any other.
+    #[tactic(auto, unfolding(crate::specs::Channels::encoding_of))]
     pub fn from_bits(encoding: u8) -> FoundEncoding
         ensures { said_encoding result ≡ encoding_of encoding }
     {
