@@ -16,7 +16,7 @@ use channel::{Channel, ChannelEncoding, FoundEncoding, LegacyFlags};
 use wire::{Place, Refusal, Size};
 
 // Sixteen entries in one encoding. In a consistent sequence the bytes that the encoding does not use are 0.
-#[derive(Drop)]
+#[derive(Clone, Copy)]
 pub struct ChannelSequence {
     pub encoding: u8,
     pub bytes: [u8; 32],
@@ -332,6 +332,7 @@ fn repeated(known: ChannelEncoding, first: u8, second: u8) -> [u8; 32]
     }
 }
 
+#[tactic(auto, unfolding(crate::specs::Sequences::times))]
 fn singles(channel: u8) -> [u8; 32]
     ensures { result ≡ padded (times 16 (channel ∷ [])) }
 {
