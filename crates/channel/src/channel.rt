@@ -8,7 +8,7 @@ ghost use Rattle.channel.specs.Said.{said_encoding, said_corrected};
 use wire::{Refusal, Size};
 
 // The three channel encodings.
-#[derive(Drop)]
+#[derive(Clone, Copy)]
 pub enum ChannelEncoding {
     // The channel alone.
     Simple,
@@ -79,7 +79,7 @@ impl ChannelEncoding {
 }
 
 // The flags of the legacy encoding, as named bits of one byte.
-#[derive(Drop)]
+#[derive(Clone, Copy)]
 pub struct LegacyFlags(pub u8);
 
 impl LegacyFlags {
