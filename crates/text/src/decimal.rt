@@ -30,7 +30,7 @@ pub fn put_decimal(buf: &mut [u8], at: usize, n: u64) -> usize
 }
 
 // The number that a word writes, or that it writes none.
-#[derive(Drop)]
+#[derive(Clone, Copy)]
 pub enum Decimal {
     Number(u64),
     No,
