@@ -15,7 +15,7 @@ open_file() {
 }
 
 # Each crate by itself, in the order of the layers, so that one sees how far it is. What the prover says of a crate is
-# shown where it fails.
+# shown where it fails. `rt run` makes the program, and then runs it, here on an empty input.
 build() {
     program=$1
     set --
@@ -26,7 +26,9 @@ build() {
     for crate; do
         count=$((count + 1))
         echo "proving $crate, $count of $#" >&2
-        if ! log=$(rt check "$crate" </dev/null 2>&1); then
+        command=lib
+        [ "$crate" != "$program" ] || command=run
+        if ! log=$(cd "crates/$crate" && rt "$command" </dev/null 2>&1); then
             printf '%s\n' "$log" >&2
             fail "$crate could not be proved and built"
         fi
@@ -38,17 +40,21 @@ run() {
     if [ "$(uname -m)" = x86_64 ]; then
         "$1"
     else
-        kit=$(dirname "$(dirname "$(rt doc)")")
+        kit=$(dirname "$(rt doc)")
         tools=$kit/on/$(uname -m)/toolchain
         "$tools/bin/qemu-x86_64" "$tools/lib/ld-linux-x86-64.so.2" --library-path "$tools/lib" "$1"
     fi
 }
 
-# Runs the program, built first where it is not and again where a source is newer. A program has no exit status of its own:
-# what it says on standard error is what failed.
+# Whether a source of the repository is newer than a program. What rt makes stands in the folders named out.
+is_old() {
+    [ -n "$(find "$home/crates.txt" "$home"/crates/*/* -name out -prune -o -newer "$1" -print | head -n 1)" ]
+}
+
+# Runs the program, built first where it is not and again where a source is newer. What it says on standard error is what failed.
 launch() {
-    program=$home/target/bin/$1
-    if [ ! -x "$program" ] || [ -n "$(find "$home/crates.txt" "$home/crates" -newer "$program" | head -n 1)" ]; then
+    program=$home/crates/$1/out/$1
+    if [ ! -x "$program" ] || is_old "$program"; then
         (cd "$home" && build "$1") || exit 1
         touch "$program"
     fi

@@ -132,7 +132,7 @@ fn unnamed<'a>(word: &'a [u8], name: &[u8]) -> &'a [u8] {
 }
 
 // How far the line has been read, and the numbers that were found.
-#[derive(Drop)]
+#[derive(Clone, Copy)]
 pub(crate) struct Taken {
     pub(crate) right: bool,
     pub(crate) at: usize,

@@ -1,6 +1,7 @@
 // The calls: a name and a letter for each argument, or for each record of arguments, and what answers the call.
 use crate::fields::show_said;
 use crate::numbers::{Said, size_at};
+use crate::output::Output;
 use crate::words::{find, first, letter, nth, put_text};
 use crate::{items, judging, lines, sequences};
 use report::Mark;
@@ -202,7 +203,7 @@ fn numbers(call: usize, v: &[u64; 32], given: &[u8]) -> Said {
     crate::channels::answer(call, v)
 }
 
-fn show_numbers(call: usize, v: &[u64; 32], given: &[u8], out: &mut [u8], at: usize) -> usize {
+fn show_numbers(call: usize, v: &[u64; 32], given: &[u8], out: &mut Output, at: usize) -> usize {
     let mut buf = [0u8; 2048];
     let n = put_answer_letters(&mut buf);
     let letters = nth(put_text(&buf, n), call, b' ');
@@ -210,7 +211,7 @@ fn show_numbers(call: usize, v: &[u64; 32], given: &[u8], out: &mut [u8], at: us
     show_said(out, at, letter(letters, 0), letter(letters, 1), said)
 }
 
-fn items(call: usize, v: &[u64; 32], given: &[u8], out: &mut [u8], at: usize) -> usize {
+fn items(call: usize, v: &[u64; 32], given: &[u8], out: &mut Output, at: usize) -> usize {
     let bytes = first(given, size_at(v, 0));
     let place = size_at(v, 1);
     match call {
@@ -234,7 +235,7 @@ fn record_sought(call: usize) -> u8 {
     b'R'
 }
 
-fn searches(call: usize, v: &[u64; 32], given: &[u8], out: &mut [u8], at: usize) -> usize {
+fn searches(call: usize, v: &[u64; 32], given: &[u8], out: &mut Output, at: usize) -> usize {
     let bytes = first(given, size_at(v, 0));
     let record = record_sought(call);
     match call {
@@ -251,7 +252,7 @@ fn texts(
     v: &[u64; 32],
     given: &[u8],
     lent: &[u8],
-    out: &mut [u8],
+    out: &mut Output,
     at: usize,
 ) -> usize {
     let bytes = first(given, size_at(v, 0));
@@ -276,7 +277,7 @@ pub(crate) fn answer(
     v: &[u64; 32],
     given: &[u8],
     lent: &mut [u8],
-    out: &mut [u8],
+    out: &mut Output,
     at: usize,
 ) -> usize {
     if call <= BAND {

@@ -1,7 +1,7 @@
 // The numbers that have names.
 use crate::fields::show_list;
 use crate::numbers::{Numbers, none};
-use crate::output::text;
+use crate::output::{Output, text};
 use crate::words::{nth, put_text};
 use action_frame::AWDLActionFrame;
 use channel::LegacyFlags;
@@ -164,7 +164,7 @@ fn numbers_of(group: usize) -> Numbers {
     }
 }
 
-pub(crate) fn constants(group: usize, out: &mut [u8], at: usize) -> usize {
+pub(crate) fn constants(group: usize, out: &mut Output, at: usize) -> usize {
     let numbers = numbers_of(group);
     let v = numbers.list;
     let bytes = numbers.bytes;

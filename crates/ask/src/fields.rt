@@ -2,7 +2,7 @@
 // 1, 2, 4 and 8 are numbers of so many bytes, p a presence flag, a an address, k the kind of a channel and c the channel behind it,
 // s the bytes of a sequence, and m the word of a mark.
 use crate::numbers::{Numbers, Said, none, number_at};
-use crate::output::{named, number, text};
+use crate::output::{Output, named, number, text};
 use crate::words::{between, first, letter, nth, place_of, put_text, rest, word_end};
 use wire::MACAddress;
 
@@ -77,7 +77,7 @@ pub(crate) fn number_of_word(kind: u8, word: &[u8]) -> text::Decimal {
     crate::words::find(words_of(put_text(&buf, n), kind), word)
 }
 
-fn show_word(out: &mut [u8], at: usize, kind: u8, n: u64) -> usize {
+fn show_word(out: &mut Output, at: usize, kind: u8, n: u64) -> usize {
     let mut buf = [0u8; 2048];
     let length = put_words(&mut buf);
     let words = words_of(put_text(&buf, length), kind);
@@ -114,13 +114,13 @@ pub(crate) fn address_of(n: u64) -> MACAddress {
     )
 }
 
-fn address(out: &mut [u8], at: usize, n: u64) -> usize {
+fn address(out: &mut Output, at: usize, n: u64) -> usize {
     let a = address_of(n);
     let bytes = [a.0, a.1, a.2, a.3, a.4, a.5];
     crate::output::hex(out, at, &bytes)
 }
 
-fn show_one(out: &mut [u8], at: usize, field: &[u8], n: u64, bytes: &[u8; 32]) -> usize {
+fn show_one(out: &mut Output, at: usize, field: &[u8], n: u64, bytes: &[u8; 32]) -> usize {
     let behind_space = text(out, at, b" ");
     let behind_name = text(out, behind_space, rest(field));
     let kind = letter(field, 0);
@@ -134,7 +134,7 @@ fn show_one(out: &mut [u8], at: usize, field: &[u8], n: u64, bytes: &[u8; 32]) -
 
 // The fields of a list with their numbers, and with the bytes where one is a sequence's.
 pub(crate) fn show_list(
-    out: &mut [u8],
+    out: &mut Output,
     at: usize,
     list: &[u8],
     v: &[u64; 32],
@@ -156,7 +156,7 @@ pub(crate) fn show_list(
     behind
 }
 
-pub(crate) fn show(out: &mut [u8], at: usize, record: u8, numbers: Numbers) -> usize {
+pub(crate) fn show(out: &mut Output, at: usize, record: u8, numbers: Numbers) -> usize {
     let v = numbers.list;
     let bytes = numbers.bytes;
     let mut buf = [0u8; 2048];
@@ -167,7 +167,7 @@ pub(crate) fn show(out: &mut [u8], at: usize, record: u8, numbers: Numbers) -> u
 
 // An answer by the letters of its number and of its record. A letter that stands for no list shows nothing.
 pub(crate) fn show_said(
-    out: &mut [u8],
+    out: &mut Output,
     at: usize,
     of_number: u8,
     of_record: u8,
@@ -180,7 +180,7 @@ pub(crate) fn show_said(
     show(out, behind_number, of_record, record)
 }
 
-pub(crate) fn show_item(out: &mut [u8], at: usize, item: tlvs::Item) -> usize {
+pub(crate) fn show_item(out: &mut Output, at: usize, item: tlvs::Item) -> usize {
     show(
         out,
         at,

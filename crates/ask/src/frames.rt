@@ -2,7 +2,7 @@
 use crate::calls;
 use crate::items::item_at;
 use crate::numbers::{Numbers, Said, byte_at, long_at, none, number_at, one, refused, size_at};
-use crate::output::{named, named_hex, text};
+use crate::output::{Output, named, named_hex, text};
 use crate::words::first;
 use action_frame::{AWDLActionFrame, InFrame, PhyTxTime, ReadFrame, TargetTxTime};
 use wire::{Refusal, Size};
@@ -74,11 +74,11 @@ pub(crate) fn answer(call: usize, v: &[u64; 32], bytes: &[u8]) -> Said {
     }
 }
 
-pub(crate) fn tail(frame: &[u8], out: &mut [u8], at: usize) -> usize {
+pub(crate) fn tail(frame: &[u8], out: &mut Output, at: usize) -> usize {
     named_hex(out, at, b"0 offset=0 tail=", AWDLActionFrame::tail(frame))
 }
 
-pub(crate) fn offset_in_frame(frame: &[u8], v: &[u64; 32], out: &mut [u8], at: usize) -> usize {
+pub(crate) fn offset_in_frame(frame: &[u8], v: &[u64; 32], out: &mut Output, at: usize) -> usize {
     match AWDLActionFrame::offset_in_frame(frame, item_at(v, 1), size_at(v, 4)) {
         InFrame::At(n) => named(out, at, b"0 offset=0 in_frame=", n as u64),
         InFrame::Nothing => text(out, at, b"0 offset=0 nothing"),

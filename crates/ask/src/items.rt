@@ -9,13 +9,13 @@ ghost use Rattle.tlvs.specs.Search.{next_data_path, next_synchronization, next_c
 use crate::calls;
 use crate::fields::{show, show_item};
 use crate::numbers::{Numbers, byte_at, none, size_at};
-use crate::output::{named, named_hex, text};
+use crate::output::{Output, named, named_hex, text};
 use tlvs::{
     End, Found, FoundChannelSequence, FoundDataPath, FoundSynchronization, Item, ReadTLVs, Step,
     StepWithValue,
 };
 
-fn show_step(out: &mut [u8], at: usize, step: Step) -> usize {
+fn show_step(out: &mut Output, at: usize, step: Step) -> usize {
     match step {
         Step::Item(item, next) => {
             let behind_word = text(out, at, b" item");
@@ -27,12 +27,12 @@ fn show_step(out: &mut [u8], at: usize, step: Step) -> usize {
     }
 }
 
-pub(crate) fn step(tail: &[u8], place: usize, out: &mut [u8], at: usize) -> usize {
+pub(crate) fn step(tail: &[u8], place: usize, out: &mut Output, at: usize) -> usize {
     let behind_why = text(out, at, b"0 offset=0");
     show_step(out, behind_why, tlvs::step(tail, place))
 }
 
-fn show_both(step: Step, value: &[u8], out: &mut [u8], at: usize) -> usize {
+fn show_both(step: Step, value: &[u8], out: &mut Output, at: usize) -> usize {
     let behind_step = show_step(out, at, step);
     named_hex(out, behind_step, b" value=", value)
 }
@@ -68,7 +68,7 @@ fn valued_value(tail: &[u8], at: usize) -> &[u8]
     tlvs::step_with_value(tail, at).value
 }
 
-pub(crate) fn reader_next(tail: &[u8], place: usize, out: &mut [u8], at: usize) -> usize {
+pub(crate) fn reader_next(tail: &[u8], place: usize, out: &mut Output, at: usize) -> usize {
     let behind_why = text(out, at, b"0 offset=0");
     show_both(
         reader_step(tail, place),
@@ -78,7 +78,7 @@ pub(crate) fn reader_next(tail: &[u8], place: usize, out: &mut [u8], at: usize) 
     )
 }
 
-pub(crate) fn step_with_value(tail: &[u8], place: usize, out: &mut [u8], at: usize) -> usize {
+pub(crate) fn step_with_value(tail: &[u8], place: usize, out: &mut Output, at: usize) -> usize {
     let behind_why = text(out, at, b"0 offset=0");
     show_both(
         valued_step(tail, place),
@@ -99,7 +99,7 @@ pub(crate) fn item_at(v: &[u64; 32], from: usize) -> Item
     }
 }
 
-pub(crate) fn value(tail: &[u8], v: &[u64; 32], out: &mut [u8], at: usize) -> usize {
+pub(crate) fn value(tail: &[u8], v: &[u64; 32], out: &mut Output, at: usize) -> usize {
     named_hex(
         out,
         at,
@@ -108,7 +108,7 @@ pub(crate) fn value(tail: &[u8], v: &[u64; 32], out: &mut [u8], at: usize) -> us
     )
 }
 
-pub(crate) fn end(tail: &[u8], out: &mut [u8], at: usize) -> usize {
+pub(crate) fn end(tail: &[u8], out: &mut Output, at: usize) -> usize {
     match tlvs::end(tail) {
         End::Whole(items) => named(out, at, b"0 offset=0 whole items=", items as u64),
         End::Cut(place, items) => {
@@ -119,7 +119,7 @@ pub(crate) fn end(tail: &[u8], out: &mut [u8], at: usize) -> usize {
 }
 
 // Each turn shows what stands at the place; the walk ends where that is no item.
-pub(crate) fn walk(tail: &[u8], out: &mut [u8], at: usize) -> usize {
+pub(crate) fn walk(tail: &[u8], out: &mut Output, at: usize) -> usize {
     let mut behind = text(out, at, b"0 offset=0");
     let mut place = 0;
     let mut items = 0u64;
@@ -230,7 +230,7 @@ fn look(call: usize, record: u8, tail: &[u8], place: usize) -> Looked {
 }
 
 // Where nothing is found, a data path search answers no record and the others the zero one.
-fn show_looked(record: u8, looked: Looked, out: &mut [u8], at: usize) -> usize {
+fn show_looked(record: u8, looked: Looked, out: &mut Output, at: usize) -> usize {
     let found = looked.found;
     let numbers = looked.record;
     match found {
@@ -255,7 +255,7 @@ pub(crate) fn search(
     record: u8,
     tail: &[u8],
     place: usize,
-    out: &mut [u8],
+    out: &mut Output,
     at: usize,
 ) -> usize {
     let behind_why = text(out, at, b"0 offset=0");
@@ -275,7 +275,7 @@ fn next_record(record: u8, tail: &[u8], place: usize) -> Looked
     channel_sequence(tlvs::next_channel_sequence(tail, place))
 }
 
-pub(crate) fn all(record: u8, tail: &[u8], out: &mut [u8], at: usize) -> usize {
+pub(crate) fn all(record: u8, tail: &[u8], out: &mut Output, at: usize) -> usize {
     let mut behind = text(out, at, b"0 offset=0");
     let mut place = 0;
     let mut records = 0u64;

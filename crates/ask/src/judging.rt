@@ -1,6 +1,7 @@
 // Which channel to move to. The permitted channels stand in the lent buffer, so that both lists are bytes.
 use crate::fields::show_said;
 use crate::numbers::{Said, byte_at, one, refused, size_at};
+use crate::output::Output;
 use crate::words::first;
 use channel_judge::{Judgement, Load, Proposal};
 
@@ -29,7 +30,7 @@ pub(crate) fn judge(
     sequences: &[u8],
     v: &[u64; 32],
     lent: &[u8],
-    out: &mut [u8],
+    out: &mut Output,
     at: usize,
 ) -> usize {
     let permitted = first(lent, size_at(v, 1));
@@ -41,7 +42,7 @@ pub(crate) fn own_proposal(
     sequences: &[u8],
     v: &[u64; 32],
     lent: &[u8],
-    out: &mut [u8],
+    out: &mut Output,
     at: usize,
 ) -> usize {
     let permitted = first(lent, size_at(v, 1));
@@ -49,7 +50,7 @@ pub(crate) fn own_proposal(
     show_said(out, at, b'L', b'-', said)
 }
 
-pub(crate) fn channel_load(sequences: &[u8], v: &[u64; 32], out: &mut [u8], at: usize) -> usize {
+pub(crate) fn channel_load(sequences: &[u8], v: &[u64; 32], out: &mut Output, at: usize) -> usize {
     show_said(
         out,
         at,

@@ -2,7 +2,7 @@
 use crate::calls;
 use crate::fields::show_said;
 use crate::numbers::{byte_at, size_at, sized};
-use crate::output::named_hex;
+use crate::output::{Output, named_hex};
 use crate::words::first;
 use wire::Size;
 
@@ -40,7 +40,7 @@ pub(crate) fn answer(
     v: &[u64; 32],
     given: &[u8],
     lent: &mut [u8],
-    out: &mut [u8],
+    out: &mut Output,
     at: usize,
 ) -> usize {
     let room = size_at(v, place_of_room(call));

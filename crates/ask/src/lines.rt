@@ -2,7 +2,7 @@
 use crate::fields::{mark_list, show};
 use crate::items::item_at;
 use crate::numbers::{Numbers, none, number_at, size_at};
-use crate::output::{named, named_hex, text};
+use crate::output::{Output, named, named_hex, text};
 use crate::words::first;
 use report::{Line, Mark};
 use tlvs::Item;
@@ -48,18 +48,18 @@ fn numbers_of(mark: Mark) -> Numbers {
     }
 }
 
-fn show_mark(out: &mut [u8], at: usize, mark: Mark) -> usize {
+fn show_mark(out: &mut Output, at: usize, mark: Mark) -> usize {
     let number = number_of(mark);
     let behind_word = show(out, at, b'M', none().and(number));
     show(out, behind_word, mark_list(number), numbers_of(mark))
 }
 
-pub(crate) fn dump_start(input: &[u8], out: &mut [u8], at: usize) -> usize {
+pub(crate) fn dump_start(input: &[u8], out: &mut Output, at: usize) -> usize {
     let behind_why = text(out, at, b"0 offset=0");
     show_mark(out, behind_why, report::dump_start(input))
 }
 
-fn show_line(line: Line, out: &mut [u8], at: usize) -> usize {
+fn show_line(line: Line, out: &mut Output, at: usize) -> usize {
     match line {
         Line::Text(n, mark) => {
             let behind_length = named(out, at, b"0 offset=0 line length=", n as u64);
@@ -69,7 +69,7 @@ fn show_line(line: Line, out: &mut [u8], at: usize) -> usize {
     }
 }
 
-fn show_buffer(buf: &[u8; 128], out: &mut [u8], at: usize) -> usize {
+fn show_buffer(buf: &[u8; 128], out: &mut Output, at: usize) -> usize {
     named_hex(out, at, b" buffer=", buf)
 }
 
@@ -78,7 +78,7 @@ pub(crate) fn next_line(
     frame: &[u8],
     v: &[u64; 32],
     lent: &[u8],
-    out: &mut [u8],
+    out: &mut Output,
     at: usize,
 ) -> usize {
     let mut buf = [0u8; 128];
@@ -96,12 +96,12 @@ fn text_of(buf: &[u8; 128], n: usize) -> &[u8] {
     first(buf, 0)
 }
 
-fn show_text(buf: &[u8; 128], n: usize, out: &mut [u8], at: usize) -> usize {
+fn show_text(buf: &[u8; 128], n: usize, out: &mut Output, at: usize) -> usize {
     let behind_bar = text(out, at, b" | ");
     text(out, behind_bar, text_of(buf, n))
 }
 
-pub(crate) fn lines(frame: &[u8], start: Mark, out: &mut [u8], at: usize) -> usize {
+pub(crate) fn lines(frame: &[u8], start: Mark, out: &mut Output, at: usize) -> usize {
     let mut buf = [0u8; 128];
     let mut behind = text(out, at, b"0 offset=0");
     let mut mark = start;

@@ -1,5 +1,5 @@
-// Answers questions, a line each. A program has no exit status, so what fails is said on standard error, where the launcher
-// looks for it.
+// Answers questions, a line each. What fails is said on standard error, where the launcher looks for it, and the exit status is
+// then 1.
 #![tactic(auto)]
 
 ghost use Rattle.std.specs.Prelude.{◌≡◌, length};
@@ -22,7 +22,9 @@ mod synchronization;
 mod words;
 
 use arguments::arguments;
-use output::{flush, has_failed, text};
+use output::{Output, flush, has_failed, text};
+use std::io::{Read, Stdin};
+use std::process::ExitCode;
 use text::Decimal;
 use words::{between, first, letter, skip, word_end};
 
@@ -42,11 +44,11 @@ fn line_room() -> [u8; 16385]
 
 const LONGEST: usize = 16384;
 
-fn bad(out: &mut [u8], at: usize) -> usize {
+fn bad(out: &mut Output, at: usize) -> usize {
     text(out, at, b"bad question\n")
 }
 
-fn ask(line: &[u8], from: usize, call: usize, out: &mut [u8], at: usize) -> usize {
+fn ask(line: &[u8], from: usize, call: usize, out: &mut Output, at: usize) -> usize {
     let mut given = room();
     let mut lent = room();
     let taken = arguments(line, from, call, &mut given, &mut lent);
@@ -74,7 +76,7 @@ fn call_of(line: &[u8], start: usize, end: usize) -> Decimal {
     calls::number_of(between(line, start, end))
 }
 
-fn answer(line: &[u8], out: &mut [u8], at: usize) -> usize {
+fn answer(line: &[u8], out: &mut Output, at: usize) -> usize {
     let start = skip(line, 0);
     let end = word_end(line, start);
     if is_passed_over(line, start) {
@@ -101,7 +103,7 @@ fn push(line: &mut [u8], n: usize, letter: u8) -> usize {
     n
 }
 
-fn take_one(byte: u8, now: Places, line: &mut [u8], out: &mut [u8]) -> Places {
+fn take_one(byte: u8, now: Places, line: &mut [u8], out: &mut Output) -> Places {
     let n = now.length;
     let at = now.at;
     if byte == b'\n' {
@@ -116,7 +118,7 @@ fn take_one(byte: u8, now: Places, line: &mut [u8], out: &mut [u8]) -> Places {
     }
 }
 
-fn take(block: &[u8], start: Places, line: &mut [u8], out: &mut [u8]) -> Places {
+fn take(block: &[u8], start: Places, line: &mut [u8], out: &mut Output) -> Places {
     let mut now = start;
     let mut i = 0;
     while i < block.len() {
@@ -141,7 +143,7 @@ struct Ended {
     unwritten: bool,
 }
 
-fn last(state: State, line: &[u8], out: &mut [u8]) -> Ended {
+fn last(state: State, line: &[u8], out: &mut Output) -> Ended {
     let places = state.places;
     let n = places.length;
     let at = answer(first(line, n), out, places.at);
@@ -153,15 +155,16 @@ fn last(state: State, line: &[u8], out: &mut [u8]) -> Ended {
 }
 
 // Answers are written before more is read, so that one who waits for them has them.
-fn turn(places: Places, line: &mut [u8], out: &mut [u8]) -> State {
-    let mut block = io::large_buffer();
-    let got = libc::read(libc::STDIN_FILENO, &mut block);
-    let n = io::count(got, &block);
+fn turn(mut stdin: Stdin, places: Places, line: &mut [u8], out: &mut Output) -> State {
+    let mut block = [0u8; 65536];
+    let got = stdin.read(&mut block);
+    let failed = got.is_err();
+    let n = got.unwrap_or(0);
     if n == 0 {
         return State {
             places,
             ended: true,
-            failed: got < 0,
+            failed,
         };
     }
     let taken = take(first(&block, n), places, line, out);
@@ -177,7 +180,7 @@ fn turn(places: Places, line: &mut [u8], out: &mut [u8]) -> State {
 }
 
 // The number of blocks has no bound that matters: it is counted down so that it has one.
-fn questions(line: &mut [u8], out: &mut [u8]) -> State {
+fn questions(stdin: Stdin, line: &mut [u8], out: &mut Output) -> State {
     let mut state = State {
         places: Places { length: 0, at: 0 },
         ended: false,
@@ -186,7 +189,7 @@ fn questions(line: &mut [u8], out: &mut [u8]) -> State {
     let mut blocks = 18446744073709551615u64;
     while 0 < blocks {
         let places = state.places;
-        state = turn(places, line, out);
+        state = turn(stdin, places, line, out);
         if state.ended {
             return state;
         }
@@ -195,14 +198,18 @@ fn questions(line: &mut [u8], out: &mut [u8]) -> State {
     state
 }
 
-fn main() {
-    let mut out = io::large_buffer();
+fn main(rt: HostRuntime) -> ExitCode {
+    let mut out = Output::new(rt.stdout());
     let mut line = line_room();
-    let state = questions(&mut line, &mut out);
+    let state = questions(rt.stdin(), &mut line, &mut out);
     let ended = last(state, &line, &mut out);
     if ended.unread {
-        io::write_all(libc::STDERR_FILENO, b"cannot read the input\n");
-    } else if ended.unwritten {
-        io::write_all(libc::STDERR_FILENO, b"cannot write\n");
+        let _ = rt.stderr().write_all(b"cannot read the input\n");
+        return ExitCode::FAILURE;
     }
+    if ended.unwritten {
+        let _ = rt.stderr().write_all(b"cannot write\n");
+        return ExitCode::FAILURE;
+    }
+    ExitCode::SUCCESS
 }

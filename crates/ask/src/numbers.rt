@@ -3,7 +3,7 @@ use crate::fields::{byte, long, number_of, word};
 use wire::{MACAddress, Place, Refusal, Size};
 
 // At most 32, and the bytes that a sequence has at its end. No record has more.
-#[derive(Drop)]
+#[derive(Clone, Copy)]
 pub(crate) struct Numbers {
     pub(crate) count: usize,
     pub(crate) list: [u64; 32],

@@ -3,52 +3,69 @@
 ghost use Rattle.std.specs.Prelude.{◌+◌, ◌-◌, ◌≤◌};
 
 use crate::words::between;
+use std::io::Stdout;
+
+// The block, and where it is written.
+#[derive(Drop)]
+pub(crate) struct Output {
+    stdout: Stdout,
+    block: [u8; 65536],
+}
+
+impl Output {
+    pub(crate) fn new(stdout: Stdout) -> Output {
+        Output {
+            stdout,
+            block: [0; 65536],
+        }
+    }
+}
 
 const FAILED: usize = 18446744073709551615;
 
-pub(crate) fn has_failed(out: &[u8], at: usize) -> bool {
-    out.len() < at
+pub(crate) fn has_failed(out: &Output, at: usize) -> bool {
+    out.block.len() < at
 }
 
-pub(crate) fn flush(out: &[u8], at: usize) -> usize {
-    if out.len() < at {
+pub(crate) fn flush(out: &Output, at: usize) -> usize {
+    if out.block.len() < at {
         return at;
     }
-    if io::write_all(libc::STDOUT_FILENO, between(out, 0, at)) {
+    if out.stdout.write_all(between(&out.block, 0, at)).is_ok() {
         return 0;
     }
     FAILED
 }
 
 // A place with room for n bytes behind it.
-fn room(out: &[u8], at: usize, n: usize) -> usize {
-    if out.len() < at {
+fn room(out: &Output, at: usize, n: usize) -> usize {
+    if out.block.len() < at {
         return at;
     }
-    if out.len() - at < n {
+    if out.block.len() - at < n {
         return flush(out, at);
     }
     at
 }
 
-pub(crate) fn text(out: &mut [u8], at: usize, words: &[u8]) -> usize {
+pub(crate) fn text(out: &mut Output, at: usize, words: &[u8]) -> usize {
     let from = room(out, at, words.len());
-    wire::put_slice(out, from, words)
+    wire::put_slice(&mut out.block, from, words)
 }
 
-pub(crate) fn number(out: &mut [u8], at: usize, n: u64) -> usize {
+pub(crate) fn number(out: &mut Output, at: usize, n: u64) -> usize {
     let from = room(out, at, 20);
-    text::put_decimal(out, from, n)
+    text::put_decimal(&mut out.block, from, n)
 }
 
-pub(crate) fn named(out: &mut [u8], at: usize, name: &[u8], n: u64) -> usize {
+pub(crate) fn named(out: &mut Output, at: usize, name: &[u8], n: u64) -> usize {
     let behind_name = text(out, at, name);
     number(out, behind_name, n)
 }
 
-fn some_hex(out: &mut [u8], at: usize, bytes: &[u8]) -> usize {
+fn some_hex(out: &mut Output, at: usize, bytes: &[u8]) -> usize {
     let from = room(out, at, 16384);
-    text::put_hex(out, from, bytes)
+    text::put_hex(&mut out.block, from, bytes)
 }
 
 // How many of the bytes that are left are shown at a time.
@@ -63,7 +80,7 @@ fn some(left: usize) -> usize
 }
 
 // Bytes in hex, some thousand at a time, so that each part has room.
-pub(crate) fn hex(out: &mut [u8], at: usize, bytes: &[u8]) -> usize {
+pub(crate) fn hex(out: &mut Output, at: usize, bytes: &[u8]) -> usize {
     if bytes.len() == 0 {
         return text(out, at, b"-");
     }
@@ -77,7 +94,7 @@ pub(crate) fn hex(out: &mut [u8], at: usize, bytes: &[u8]) -> usize {
     behind
 }
 
-pub(crate) fn named_hex(out: &mut [u8], at: usize, name: &[u8], bytes: &[u8]) -> usize {
+pub(crate) fn named_hex(out: &mut Output, at: usize, name: &[u8], bytes: &[u8]) -> usize {
     let behind_name = text(out, at, name);
     hex(out, behind_name, bytes)
 }

@@ -3,7 +3,7 @@ ghost use Rattle.std.specs.Prelude.{◌≤◌};
 
 use crate::fields::show_said;
 use crate::numbers::{Numbers, Said, byte_at, none, one, placed, refused, size_at, sized, word_at};
-use crate::output::{named_hex, text};
+use crate::output::{Output, named_hex, text};
 use crate::words::first;
 use crate::{calls, channels};
 use channel_sequence::{ChannelSequence, Consistency, Entry, MadeSequence, Making};
@@ -134,12 +134,12 @@ pub(crate) fn answer(call: usize, v: &[u64; 32], given: &[u8]) -> Said {
     }
 }
 
-pub(crate) fn head(v: &[u64; 32], given: &[u8], out: &mut [u8], at: usize) -> usize {
+pub(crate) fn head(v: &[u64; 32], given: &[u8], out: &mut Output, at: usize) -> usize {
     let head = record_of(v, 0, given).head();
     named_hex(out, at, b"0 offset=0 head=", &head)
 }
 
-fn show_entry(entry: Entry, out: &mut [u8], at: usize) -> usize {
+fn show_entry(entry: Entry, out: &mut Output, at: usize) -> usize {
     match entry {
         Entry::Channel(channel) => show_said(
             out,
@@ -153,7 +153,7 @@ fn show_entry(entry: Entry, out: &mut [u8], at: usize) -> usize {
     }
 }
 
-pub(crate) fn entry(v: &[u64; 32], given: &[u8], out: &mut [u8], at: usize) -> usize {
+pub(crate) fn entry(v: &[u64; 32], given: &[u8], out: &mut Output, at: usize) -> usize {
     let entry = sequence_of(byte_at(v, 0), given).entry(size_at(v, 2));
     show_entry(entry, out, at)
 }

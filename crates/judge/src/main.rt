@@ -1,5 +1,5 @@
-// Judges channels: the input is lines, and each question of it is answered as soon as it has ended. A program has no exit status,
-// so what fails is said on standard error, where the launcher looks for it.
+// Judges channels: the input is lines, and each question of it is answered as soon as it has ended. What fails is said on standard
+// error, where the launcher looks for it, and the exit status is then 1.
 #![tactic(auto)]
 
 mod parse;
@@ -9,6 +9,8 @@ mod words;
 
 use question::{Question, begun, with_line};
 use show::show;
+use std::io::{Read, Stdin, Stdout};
+use std::process::ExitCode;
 use words::{first, starts};
 
 // The length of the line so far, the question so far, and whether an answer could not be written.
@@ -19,9 +21,15 @@ struct State {
     unwritten: bool,
 }
 
-fn take_line(line: &[u8], question: Question, sequences: &mut [u8], permitted: &mut [u8]) -> State {
+fn take_line(
+    stdout: Stdout,
+    line: &[u8],
+    question: Question,
+    sequences: &mut [u8],
+    permitted: &mut [u8],
+) -> State {
     if starts(line, b"permitted ") {
-        let written = show(question, sequences, permitted);
+        let written = show(stdout, question, sequences, permitted);
         return State {
             length: 0,
             question: begun(line, permitted),
@@ -36,6 +44,7 @@ fn take_line(line: &[u8], question: Question, sequences: &mut [u8], permitted: &
 }
 
 fn take_one(
+    stdout: Stdout,
     byte: u8,
     now: State,
     line: &mut [u8],
@@ -45,7 +54,7 @@ fn take_one(
     let n = now.length;
     let question = now.question;
     if byte == b'\n' {
-        return take_line(first(line, n), question, sequences, permitted);
+        return take_line(stdout, first(line, n), question, sequences, permitted);
     }
     State {
         length: wire::put_u8(line, n, byte),
@@ -56,6 +65,7 @@ fn take_one(
 
 // Nothing is taken behind an answer that could not be written.
 fn take_bytes(
+    stdout: Stdout,
     block: &[u8],
     start: State,
     line: &mut [u8],
@@ -65,7 +75,7 @@ fn take_bytes(
     let mut now = start;
     let mut i = 0;
     while i < block.len() {
-        now = take_one(block[i], now, line, sequences, permitted);
+        now = take_one(stdout, block[i], now, line, sequences, permitted);
         if now.unwritten {
             return now;
         }
@@ -82,27 +92,42 @@ struct Turn {
     unread: bool,
 }
 
-fn take_block(state: State, line: &mut [u8], sequences: &mut [u8], permitted: &mut [u8]) -> Turn {
-    let mut block = io::large_buffer();
-    let got = libc::read(libc::STDIN_FILENO, &mut block);
-    let n = io::count(got, &block);
+fn take_block(
+    mut stdin: Stdin,
+    stdout: Stdout,
+    state: State,
+    line: &mut [u8],
+    sequences: &mut [u8],
+    permitted: &mut [u8],
+) -> Turn {
+    let mut block = [0u8; 65536];
+    let got = stdin.read(&mut block);
+    let unread = got.is_err();
+    let n = got.unwrap_or(0);
     if n == 0 {
         return Turn {
             state,
             ended: true,
-            unread: got < 0,
+            unread,
         };
     }
-    let taken = take_bytes(first(&block, n), state, line, sequences, permitted);
+    let taken = take_bytes(stdout, first(&block, n), state, line, sequences, permitted);
+    let ended = taken.unwritten;
     Turn {
         state: taken,
-        ended: taken.unwritten,
+        ended,
         unread: false,
     }
 }
 
 // The number of blocks has no bound that matters: it is counted down so that it has one.
-fn take_input(line: &mut [u8], sequences: &mut [u8], permitted: &mut [u8]) -> Turn {
+fn take_input(
+    stdin: Stdin,
+    stdout: Stdout,
+    line: &mut [u8],
+    sequences: &mut [u8],
+    permitted: &mut [u8],
+) -> Turn {
     let mut now = Turn {
         state: State {
             length: 0,
@@ -115,7 +140,7 @@ fn take_input(line: &mut [u8], sequences: &mut [u8], permitted: &mut [u8]) -> Tu
     let mut blocks = 18446744073709551615u64;
     while 0 < blocks {
         let state = now.state;
-        now = take_block(state, line, sequences, permitted);
+        now = take_block(stdin, stdout, state, line, sequences, permitted);
         if now.ended {
             return now;
         }
@@ -125,33 +150,50 @@ fn take_input(line: &mut [u8], sequences: &mut [u8], permitted: &mut [u8]) -> Tu
 }
 
 // The last line may lack its line feed, and the last question has no other behind it. Whether all is written.
-fn last(state: State, line: &[u8], sequences: &mut [u8], permitted: &mut [u8]) -> bool {
+fn last(
+    stdout: Stdout,
+    state: State,
+    line: &[u8],
+    sequences: &mut [u8],
+    permitted: &mut [u8],
+) -> bool {
     let n = state.length;
     let question = state.question;
     if state.unwritten {
         return false;
     }
     if n == 0 {
-        return show(question, sequences, permitted);
+        return show(stdout, question, sequences, permitted);
     }
-    let taken = take_line(first(line, n), question, sequences, permitted);
+    let taken = take_line(stdout, first(line, n), question, sequences, permitted);
     if taken.unwritten {
         return false;
     }
     let whole = taken.question;
-    show(whole, sequences, permitted)
+    show(stdout, whole, sequences, permitted)
 }
 
 // Each buffer has room for one more than is taken, which tells that there are more: a character, a sequence, a channel.
-fn main() {
+fn main(rt: HostRuntime) -> ExitCode {
     let mut line = [0u8; 8199];
     let mut sequences = [0u8; 2145];
     let mut permitted = [0u8; 17];
-    let taken = take_input(&mut line, &mut sequences, &mut permitted);
+    let stdout = rt.stdout();
+    let taken = take_input(
+        rt.stdin(),
+        stdout,
+        &mut line,
+        &mut sequences,
+        &mut permitted,
+    );
     let state = taken.state;
     if taken.unread {
-        io::write_all(libc::STDERR_FILENO, b"cannot read the input\n");
-    } else if !last(state, &line, &mut sequences, &mut permitted) {
-        io::write_all(libc::STDERR_FILENO, b"cannot write\n");
+        let _ = rt.stderr().write_all(b"cannot read the input\n");
+        return ExitCode::FAILURE;
     }
+    if !last(stdout, state, &line, &mut sequences, &mut permitted) {
+        let _ = rt.stderr().write_all(b"cannot write\n");
+        return ExitCode::FAILURE;
+    }
+    ExitCode::SUCCESS
 }

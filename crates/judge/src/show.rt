@@ -3,6 +3,7 @@ use crate::parse::{Fault, Proposed};
 use crate::question::{Good, Question};
 use crate::words::first;
 use channel_judge::{Judgement, Load, Proposal};
+use std::io::Stdout;
 use wire::Refusal;
 
 fn put_number(out: &mut [u8], at: usize, before: &[u8], n: u64, behind: &[u8]) -> usize {
@@ -154,8 +155,13 @@ fn put_answer(out: &mut [u8], question: Question, sequences: &[u8], permitted: &
 }
 
 // Whether the answer was written. It has room for a judgement and sixteen loads.
-pub(crate) fn show(question: Question, sequences: &[u8], permitted: &[u8]) -> bool {
+pub(crate) fn show(
+    stdout: Stdout,
+    question: Question,
+    sequences: &[u8],
+    permitted: &[u8],
+) -> bool {
     let mut out = [0u8; 512];
     let n = put_answer(&mut out, question, sequences, permitted);
-    io::write_all(libc::STDOUT_FILENO, first(&out, n))
+    stdout.write_all(first(&out, n)).is_ok()
 }
