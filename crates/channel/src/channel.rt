@@ -8,7 +8,7 @@ ghost use Rattle.channel.specs.Said.{said_encoding, said_corrected};
 use wire::{Refusal, Size};
 
 // The three channel encodings.
-#[derive(Drop)]
+#[derive(Clone, Copy)]
 pub enum ChannelEncoding {
     // The channel alone.
     Simple,
@@ -29,6 +29,7 @@ impl ChannelEncoding {
     pub const LEGACY: u8 = 1;
 
     // The one place that tells a listed encoding from any other.
+    #[tactic(auto, unfolding(crate::specs::Channels::encoding_of))]
     pub fn from_bits(encoding: u8) -> FoundEncoding
         ensures { said_encoding result ≡ encoding_of encoding }
     {
@@ -78,7 +79,7 @@ impl ChannelEncoding {
 }
 
 // The flags of the legacy encoding, as named bits of one byte.
-#[derive(Drop)]
+#[derive(Clone, Copy)]
 pub struct LegacyFlags(pub u8);
 
 impl LegacyFlags {
