@@ -63,8 +63,8 @@ fn channel_names() -> [u16; 3]
 
 // The public mask is the sum of the names. No call of this crate uses it.
 fn option_names() -> [u32; 25]
-    ensures value { result ≡ option_names }
-    ensures* do_value { do ⌜ (← (⟦UnicastOptions::KEEP⟧).entry) ≡ total option_names ⌝ }
+    ensures names { result ≡ option_names }
+    ensures mask { UnicastOptions.KEEP ≡ total option_names }
 {
     [
         UnicastOptions::START_AIRPLAY,
