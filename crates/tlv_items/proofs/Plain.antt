@@ -11,7 +11,6 @@ use borrow.Author.Tests.{eq-eqb, ne_eqb, le-leb, lt-leb}
 use Rattle.wire.specs.Reading.{read}
 use Rattle.wire.specs.Numbers.{number}
 use Rattle.wire.proofs.Bytes.{number-whole, number_short}
-use Rattle.tlv_items.specs.declared.item.Item.{Item}
 use Rattle.tlv_items.specs.declared.item.Step.{Step}
 use Rattle.tlv_items.specs.Items.{step_at}
 

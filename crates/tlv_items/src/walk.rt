@@ -14,6 +14,7 @@ fn wide(x: u16) -> usize
 }
 
 // Whichever field does not fit, the tail is cut at the place of the item.
+#[tactic(auto, unfolding(crate::specs::Items::step_at))]
 pub fn step(tail: &[u8], at: usize) -> Step
     ensures { result ≡ step_at tail.now at }
 {
