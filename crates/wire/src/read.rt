@@ -9,36 +9,36 @@ ghost use Rattle.wire.specs.ShortFields.{first_short};
 use crate::refusal::Refusal;
 
 // A number or an address with the place behind it, or why there is none.
-#[derive(Drop)]
+#[derive(Clone, Copy)]
 pub enum ReadU8 {
     Read(u8, usize),
     Refused(Refusal),
 }
 
-#[derive(Drop)]
+#[derive(Clone, Copy)]
 pub enum ReadU16 {
     Read(u16, usize),
     Refused(Refusal),
 }
 
-#[derive(Drop)]
+#[derive(Clone, Copy)]
 pub enum ReadU32 {
     Read(u32, usize),
     Refused(Refusal),
 }
 
 // Six bytes in the order of the wire. It holds no array, so that an enum can hold it.
-#[derive(Drop)]
+#[derive(Clone, Copy)]
 pub struct MACAddress(pub u8, pub u8, pub u8, pub u8, pub u8, pub u8);
 
-#[derive(Drop)]
+#[derive(Clone, Copy)]
 pub enum ReadAddress {
     Read(MACAddress, usize),
     Refused(Refusal),
 }
 
 // The place behind something, or why there is none.
-#[derive(Drop)]
+#[derive(Clone, Copy)]
 pub enum Place {
     At(usize),
     Refused(Refusal),

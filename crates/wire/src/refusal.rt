@@ -2,7 +2,7 @@ ghost use Rattle.std.specs.Prelude.{◌≡◌};
 ghost use Rattle.wire.specs.Refusals.{number_of, offset_of, carried_channel};
 
 // Why a call refuses. Every crate answers with one of these.
-#[derive(Drop)]
+#[derive(Clone, Copy)]
 pub enum Refusal {
     // The input ends before a byte that is needed. The offset is that of the first byte of the field that does not fit, counted
     // from the start of what the reader was given.

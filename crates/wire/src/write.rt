@@ -9,7 +9,7 @@ use crate::read::{MACAddress, left};
 use crate::refusal::Refusal;
 
 // How many bytes something takes on the wire, or why it cannot be written.
-#[derive(Drop)]
+#[derive(Clone, Copy)]
 pub enum Size {
     Bytes(usize),
     Refused(Refusal),
