@@ -332,6 +332,7 @@ fn repeated(known: ChannelEncoding, first: u8, second: u8) -> [u8; 32]
     }
 }
 
+#[tactic(auto, unfolding(crate::specs::Sequences::times))]
 fn singles(channel: u8) -> [u8; 32]
     ensures { result ≡ padded (times 16 (channel ∷ [])) }
 {
