@@ -69,7 +69,8 @@ def main():
         return
     for name, lemmas in LEMMAS.items():
         file = top / "crates" / name
-        texts[file] = UNDOTTED.sub(lambda m: lemmas.get(m[0], m[0]), texts[file])
+        if file in texts:
+            texts[file] = UNDOTTED.sub(lambda m: lemmas.get(m[0], m[0]), texts[file])
     for file, text in texts.items():
         file.write_text(TOKEN.sub(lambda m: new.get(m[0], m[0]), text))
     print(f"respelled {len(new)} names")

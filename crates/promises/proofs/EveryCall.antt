@@ -64,292 +64,315 @@ use Rattle.exports.specs.Synchronizations.{synchronization_numbers, synchronizat
 use Rattle.exports.specs.Judging.{judged_in, load_of}
 use Rattle.exports.specs.Told.{ToldReading, ToldNumber, ToldPlaced, ToldRecord, ToldWriting, ToldStep, ToldSearch, ToldHop}
 use Rattle.wire.proofs as wire
+use Rattle.wire.specs.contracts as wire-said
 use Rattle.wire.proofs.refusal.Refusal as refusals
+use Rattle.wire.specs.contracts.refusal.Refusal as refusals-said
 use Rattle.text.proofs as text
+use Rattle.text.specs.contracts as text-said
 use Rattle.channel.proofs.channel.ChannelEncoding as encodings
+use Rattle.channel.specs.contracts.channel.ChannelEncoding as encodings-said
 use Rattle.channel.proofs.channel.LegacyFlags as flags
+use Rattle.channel.specs.contracts.channel.LegacyFlags as flags-said
 use Rattle.channel.proofs.channel.Channel as channels
+use Rattle.channel.specs.contracts.channel.Channel as channels-said
 use Rattle.channel_sequence.proofs.channel_sequence.ChannelSequence as sequences
+use Rattle.channel_sequence.specs.contracts.channel_sequence.ChannelSequence as sequences-said
 use Rattle.channel_judge.proofs as judges
+use Rattle.channel_judge.specs.contracts as judges-said
 use Rattle.channel_sequence_tlv.proofs.channel_sequence_tlv.ChannelSequenceTLV as channel-sequences
+use Rattle.channel_sequence_tlv.specs.contracts.channel_sequence_tlv.ChannelSequenceTLV as channel-sequences-said
 use Rattle.data_path_words.proofs as bits
+use Rattle.data_path_words.specs.contracts as bits-said
 use Rattle.data_path_fields.proofs as fields
+use Rattle.data_path_fields.specs.contracts as fields-said
 use Rattle.data_path_state.proofs.data_path_state_tlv.DataPathStateTLV as data-paths
+use Rattle.data_path_state.specs.contracts.data_path_state_tlv.DataPathStateTLV as data-paths-said
 use Rattle.data_path_words.proofs.misc.DataPathChannel as words
+use Rattle.data_path_words.specs.contracts.misc.DataPathChannel as words-said
 use Rattle.data_path_words.proofs.misc.UnicastOptions as options
+use Rattle.data_path_words.specs.contracts.misc.UnicastOptions as options-said
 use Rattle.data_path_words.proofs.flags.DataPathExtendedFlags as extended
+use Rattle.data_path_words.specs.contracts.flags.DataPathExtendedFlags as extended-said
 use Rattle.synchronization_parameters.proofs.synchronization_parameters_tlv.SynchronizationParametersTLV as synchronizations
+use Rattle.synchronization_parameters.specs.contracts.synchronization_parameters_tlv.SynchronizationParametersTLV as synchronizations-said
 use Rattle.tlv_items.proofs as items
+use Rattle.tlv_items.specs.contracts as items-said
 use Rattle.tlvs.proofs as tlvs
+use Rattle.tlvs.specs.contracts as tlvs-said
 use Rattle.tlvs.proofs.read_tlvs.ReadTLVs as readers
+use Rattle.tlvs.specs.contracts.read_tlvs.ReadTLVs as readers-said
 use Rattle.action_frame.proofs.AWDLActionFrame as frames
+use Rattle.action_frame.specs.contracts.AWDLActionFrame as frames-said
 use Rattle.action_frame.proofs as stamps
+use Rattle.action_frame.specs.contracts as stamps-said
 use Rattle.report.proofs as report
+use Rattle.report.specs.contracts as report-said
 use Rattle.exports.proofs as exports
+use Rattle.exports.specs.contracts as exports-said
 use Rattle.promises.specs.Calls.{Call}
 
 -- In a claim, `a` are the call's arguments in their order, `r` is its answer, and `e` are the arguments as they are afterwards.
 pub record EveryCall : Type 2 where
   -- numbers, fields and addresses, read from a place and put at one; a size that has to fit a room
-  pub u8-at : Call wire.u8_at.Symbol.routine wire.u8_at.ended
+  pub u8-at : Call wire.u8_at.Symbol.name wire.u8_at.Symbol.code wire-said.u8_at.ended
       (λ κs a r e. said_u8 r ≡ number 1 a.0.now a.1.0)
-  pub u16-of : Call wire.u16_of.Symbol.routine wire.u16_of.ended
+  pub u16-of : Call wire.u16_of.Symbol.name wire.u16_of.Symbol.code wire-said.u16_of.ended
       (λ κs a r e. r ≡ a.0 + 256 * a.1.0)
-  pub u16-at : Call wire.u16_at.Symbol.routine wire.u16_at.ended
+  pub u16-at : Call wire.u16_at.Symbol.name wire.u16_at.Symbol.code wire-said.u16_at.ended
       (λ κs a r e. said_u16 r ≡ number 2 a.0.now a.1.0)
-  pub u32-at : Call wire.u32_at.Symbol.routine wire.u32_at.ended
+  pub u32-at : Call wire.u32_at.Symbol.name wire.u32_at.Symbol.code wire-said.u32_at.ended
       (λ κs a r e. said_u32 r ≡ number 4 a.0.now a.1.0)
-  pub address-at : Call wire.address_at.Symbol.routine wire.address_at.ended
+  pub address-at : Call wire.address_at.Symbol.name wire.address_at.Symbol.code wire-said.address_at.ended
       (λ κs a r e. said_address r ≡ address a.0.now a.1.0)
-  pub field_at : Call wire.field_at.Symbol.routine wire.field_at.ended
+  pub field_at : Call wire.field_at.Symbol.name wire.field_at.Symbol.code wire-said.field_at.ended
       (λ κs a r e. said_place r ≡ place_of (field a.1.1.0 a.0.now a.1.0))
-  pub first-short : Call wire.first_short.Symbol.routine wire.first_short.ended
+  pub first-short : Call wire.first_short.Symbol.name wire.first_short.Symbol.code wire-said.first_short.ended
       (λ κs a r e. r ≡ first_short a.1.1.0.now a.0.now a.1.0)
-  pub u16-bytes : Call wire.u16_bytes.Symbol.routine wire.u16_bytes.ended
+  pub u16-bytes : Call wire.u16_bytes.Symbol.name wire.u16_bytes.Symbol.code wire-said.u16_bytes.ended
       (λ κs a r e. r ≡ little_bytes 2 a.0)
-  pub u32-bytes : Call wire.u32_bytes.Symbol.routine wire.u32_bytes.ended
+  pub u32-bytes : Call wire.u32_bytes.Symbol.name wire.u32_bytes.Symbol.code wire-said.u32_bytes.ended
       (λ κs a r e. r ≡ little_bytes 4 a.0)
-  pub put-u8 : Call wire.put_u8.Symbol.routine wire.put_u8.ended
+  pub put-u8 : Call wire.put_u8.Symbol.name wire.put_u8.Symbol.code wire-said.put_u8.ended
       (λ κs a r e. Put a.0.now a.1.0 (little_bytes 1 a.1.1.0) r e.0.now)
-  pub put-u16 : Call wire.put_u16.Symbol.routine wire.put_u16.ended
+  pub put-u16 : Call wire.put_u16.Symbol.name wire.put_u16.Symbol.code wire-said.put_u16.ended
       (λ κs a r e. Put a.0.now a.1.0 (little_bytes 2 a.1.1.0) r e.0.now)
-  pub put-u32 : Call wire.put_u32.Symbol.routine wire.put_u32.ended
+  pub put-u32 : Call wire.put_u32.Symbol.name wire.put_u32.Symbol.code wire-said.put_u32.ended
       (λ κs a r e. Put a.0.now a.1.0 (little_bytes 4 a.1.1.0) r e.0.now)
-  pub put-address : Call wire.put_address.Symbol.routine wire.put_address.ended
+  pub put-address : Call wire.put_address.Symbol.name wire.put_address.Symbol.code wire-said.put_address.ended
       (λ κs a r e. Put a.0.now a.1.0 (address_bytes a.1.1.0) r e.0.now)
-  pub put-slice : Call wire.put_slice.Symbol.routine wire.put_slice.ended
+  pub put-slice : Call wire.put_slice.Symbol.name wire.put_slice.Symbol.code wire-said.put_slice.ended
       (λ κs a r e. Put a.0.now a.1.0 a.1.1.0.now r e.0.now)
-  pub within : Call wire.within.Symbol.routine wire.within.ended
+  pub within : Call wire.within.Symbol.name wire.within.Symbol.code wire-said.within.ended
       (λ κs a r e. said_size r ≡ within a.0 (said_size a.1.0))
-  pub refusal-number : Call refusals.number.Symbol.routine refusals.number.ended
+  pub refusal-number : Call refusals.number.Symbol.name refusals.number.Symbol.code refusals-said.number.ended
       (λ κs a r e. r ≡ number_of a.0)
-  pub refusal-offset : Call refusals.offset.Symbol.routine refusals.offset.ended
+  pub refusal-offset : Call refusals.offset.Symbol.name refusals.offset.Symbol.code refusals-said.offset.ended
       (λ κs a r e. r ≡ offset_of a.0)
-  pub refusal-channel : Call refusals.channel.Symbol.routine refusals.channel.ended
+  pub refusal-channel : Call refusals.channel.Symbol.name refusals.channel.Symbol.code refusals-said.channel.ended
       (λ κs a r e. r ≡ carried_channel a.0)
   -- text: decimal and hex, put down and taken from a word
-  pub text-put-decimal : Call text.put_decimal.Symbol.routine text.put_decimal.ended
+  pub text-put-decimal : Call text.put_decimal.Symbol.name text.put_decimal.Symbol.code text-said.put_decimal.ended
       (λ κs a r e. Put a.0.now a.1.0 (decimal a.1.1.0) r e.0.now)
-  pub text-put-hex : Call text.put_hex.Symbol.routine text.put_hex.ended
+  pub text-put-hex : Call text.put_hex.Symbol.name text.put_hex.Symbol.code text-said.put_hex.ended
       (λ κs a r e. Put a.0.now a.1.0 (hex a.1.1.0.now) r e.0.now)
-  pub text-decimal-of : Call text.decimal_of.Symbol.routine text.decimal_of.ended
+  pub text-decimal-of : Call text.decimal_of.Symbol.name text.decimal_of.Symbol.code text-said.decimal_of.ended
       (λ κs a r e. said_decimal r ≡ decimal_of a.0.now)
-  pub text-hex-into : Call text.hex_into.Symbol.routine text.hex_into.ended
+  pub text-hex-into : Call text.hex_into.Symbol.name text.hex_into.Symbol.code text-said.hex_into.ended
       (λ κs a r e. PutSaid a.0.now a.1.0 (hex_of a.1.1.0.now) r e.0.now)
-  pub text-repeat-into : Call text.repeat_into.Symbol.routine text.repeat_into.ended
+  pub text-repeat-into : Call text.repeat_into.Symbol.name text.repeat_into.Symbol.code text-said.repeat_into.ended
       (λ κs a r e. PutSaid a.0.now a.1.0 (says (replicate a.1.1.1.0 a.1.1.0)) r e.0.now)
-  pub text_same : Call text.same.Symbol.routine text.same.ended
+  pub text_same : Call text.same.Symbol.name text.same.Symbol.code text-said.same.ended
       (λ κs a r e. TellsSame a.0.now a.1.0.now r)
   -- channel encodings, legacy flags and the corrected channel
-  pub encoding-from-bits : Call encodings.from_bits.Symbol.routine encodings.from_bits.ended
+  pub encoding-from-bits : Call encodings.from_bits.Symbol.name encodings.from_bits.Symbol.code encodings-said.from_bits.ended
       (λ κs a r e. said_encoding r ≡ encoding_of a.0)
-  pub encoding-entry-size : Call encodings.entry_size.Symbol.routine encodings.entry_size.ended
+  pub encoding-entry-size : Call encodings.entry_size.Symbol.name encodings.entry_size.Symbol.code encodings-said.entry_size.ended
       (λ κs a r e. r ≡ entry_size a.0)
-  pub encoding-corrected : Call encodings.corrected.Symbol.routine encodings.corrected.ended
+  pub encoding-corrected : Call encodings.corrected.Symbol.name encodings.corrected.Symbol.code encodings-said.corrected.ended
       (λ κs a r e. r ≡ corrected_in a.0 a.1.0 a.1.1.0)
-  pub encoding-size : Call encodings.size.Symbol.routine encodings.size.ended
+  pub encoding-size : Call encodings.size.Symbol.name encodings.size.Symbol.code encodings-said.size.ended
       (λ κs a r e. said_size r ≡ size_of_encoding a.0)
-  pub legacy-flags-from-bits : Call flags.from_bits.Symbol.routine flags.from_bits.ended
+  pub legacy-flags-from-bits : Call flags.from_bits.Symbol.name flags.from_bits.Symbol.code flags-said.from_bits.ended
       (λ κs a r e. r.0 ≡ kept_flags a.0)
-  pub legacy-flags-support-channel : Call flags.support_channel.Symbol.routine flags.support_channel.ended
+  pub legacy-flags-support-channel : Call flags.support_channel.Symbol.name flags.support_channel.Symbol.code flags-said.support_channel.ended
       (λ κs a r e. r ≡ support_channel a.0.0)
-  pub legacy-flags-channel-bandwidth : Call flags.channel_bandwidth.Symbol.routine flags.channel_bandwidth.ended
+  pub legacy-flags-channel-bandwidth : Call flags.channel_bandwidth.Symbol.name flags.channel_bandwidth.Symbol.code flags-said.channel_bandwidth.ended
       (λ κs a r e. r ≡ channel_bandwidth a.0.0)
-  pub legacy-flags-band : Call flags.band.Symbol.routine flags.band.ended
+  pub legacy-flags-band : Call flags.band.Symbol.name flags.band.Symbol.code flags-said.band.ended
       (λ κs a r e. r ≡ band a.0.0)
-  pub corrected-channel : Call channels.channel.Symbol.routine channels.channel.ended
+  pub corrected-channel : Call channels.channel.Symbol.name channels.channel.Symbol.code channels-said.channel.ended
       (λ κs a r e. said_corrected r ≡ corrected a.0)
   -- channel sequences, their entries, which channel to move to, and their records
-  pub sequence-read : Call sequences.read.Symbol.routine sequences.read.ended
+  pub sequence-read : Call sequences.read.Symbol.name sequences.read.Symbol.code sequences-said.read.ended
       (λ κs a r e. r ≡ sequence_read (sequence a.1.1.0 a.0.now a.1.0))
-  pub sequence-consistent : Call sequences.consistent.Symbol.routine sequences.consistent.ended
+  pub sequence-consistent : Call sequences.consistent.Symbol.name sequences.consistent.Symbol.code sequences-said.consistent.ended
       (λ κs a r e. said_consistent r ≡ Q.consistent a.0)
-  pub sequence-fixed-channel-sequence : Call sequences.fixed_channel_sequence.Symbol.routine sequences.fixed_channel_sequence.ended
+  pub sequence-fixed-channel-sequence : Call sequences.fixed_channel_sequence.Symbol.name sequences.fixed_channel_sequence.Symbol.code sequences-said.fixed_channel_sequence.ended
       (λ κs a r e. r ≡ sequence_made (Q.fixed a.0))
-  pub sequence-to-simple : Call sequences.to_simple.Symbol.routine sequences.to_simple.ended
+  pub sequence-to-simple : Call sequences.to_simple.Symbol.name sequences.to_simple.Symbol.code sequences-said.to_simple.ended
       (λ κs a r e. r ≡ sequence_made (to_simple a.0))
-  pub sequence-size : Call sequences.size.Symbol.routine sequences.size.ended
+  pub sequence-size : Call sequences.size.Symbol.name sequences.size.Symbol.code sequences-said.size.ended
       (λ κs a r e. said_size r ≡ Q.size_of a.0)
-  pub sequence-written-size : Call sequences.written_size.Symbol.routine sequences.written_size.ended
+  pub sequence-written-size : Call sequences.written_size.Symbol.name sequences.written_size.Symbol.code sequences-said.written_size.ended
       (λ κs a r e. said_size r ≡ length_of (Q.bytes_of a.0))
-  pub sequence-entry : Call sequences.entry.Symbol.routine sequences.entry.ended
+  pub sequence-entry : Call sequences.entry.Symbol.name sequences.entry.Symbol.code sequences-said.entry.ended
       (λ κs a r e. said_entry r ≡ hop_at a.0 a.1.0)
-  pub sequence-write : Call sequences.write.Symbol.routine sequences.write.ended
+  pub sequence-write : Call sequences.write.Symbol.name sequences.write.Symbol.code sequences-said.write.ended
       (λ κs a r e. Wrote a.1.0.now (Q.bytes_of a.0) (said_size r) e.1.0.now)
-  pub judge : Call judges.judge.Symbol.routine judges.judge.ended
+  pub judge : Call judges.judge.Symbol.name judges.judge.Symbol.code judges-said.judge.ended
       (λ κs a r e. said_judgement r ≡ judged a.0.now a.1.0.now a.1.1.0)
-  pub own-proposal : Call judges.own_proposal.Symbol.routine judges.own_proposal.ended
+  pub own-proposal : Call judges.own_proposal.Symbol.name judges.own_proposal.Symbol.code judges-said.own_proposal.ended
       (λ κs a r e. said_proposal r ≡ proposed a.0.now a.1.0.now)
-  pub channel-load : Call judges.channel_load.Symbol.routine judges.channel_load.ended
+  pub channel-load : Call judges.channel_load.Symbol.name judges.channel_load.Symbol.code judges-said.channel_load.ended
       (λ κs a r e. said_load r ≡ load_in a.0.now a.1.0)
-  pub channel-sequence-read : Call channel-sequences.read.Symbol.routine channel-sequences.read.ended
+  pub channel-sequence-read : Call channel-sequences.read.Symbol.name channel-sequences.read.Symbol.code channel-sequences-said.read.ended
       (λ κs a r e. r ≡ channel_sequence_read (channel_sequence_record a.0.now a.1.0))
-  pub channel-sequence-consistent : Call channel-sequences.consistent.Symbol.routine channel-sequences.consistent.ended
+  pub channel-sequence-consistent : Call channel-sequences.consistent.Symbol.name channel-sequences.consistent.Symbol.code channel-sequences-said.consistent.ended
       (λ κs a r e. said_consistent r ≡ C.consistent a.0)
-  pub channel-sequence-head : Call channel-sequences.head.Symbol.routine channel-sequences.head.ended
+  pub channel-sequence-head : Call channel-sequences.head.Symbol.name channel-sequences.head.Symbol.code channel-sequences-said.head.ended
       (λ κs a r e. r ≡ C.head_bytes a.0)
-  pub channel-sequence-write : Call channel-sequences.write.Symbol.routine channel-sequences.write.ended
+  pub channel-sequence-write : Call channel-sequences.write.Symbol.name channel-sequences.write.Symbol.code channel-sequences-said.write.ended
       (λ κs a r e. Wrote a.1.0.now (C.bytes_of a.0) (said_size r) e.1.0.now)
-  pub channel-sequence-size : Call channel-sequences.size.Symbol.routine channel-sequences.size.ended
+  pub channel-sequence-size : Call channel-sequences.size.Symbol.name channel-sequences.size.Symbol.code channel-sequences-said.size.ended
       (λ κs a r e. said_size r ≡ C.size_of a.0)
-  pub channel-sequence-written-size : Call channel-sequences.written_size.Symbol.routine channel-sequences.written_size.ended
+  pub channel-sequence-written-size : Call channel-sequences.written_size.Symbol.name channel-sequences.written_size.Symbol.code channel-sequences-said.written_size.ended
       (λ κs a r e. said_size r ≡ length_of (C.bytes_of a.0))
   -- data path records and their words
-  pub data-path-read : Call data-paths.read.Symbol.routine data-paths.read.ended
+  pub data-path-read : Call data-paths.read.Symbol.name data-paths.read.Symbol.code data-paths-said.read.ended
       (λ κs a r e. said_data_path r ≡ data_path a.0.now 0)
-  pub data-path-consistent : Call data-paths.consistent.Symbol.routine data-paths.consistent.ended
+  pub data-path-consistent : Call data-paths.consistent.Symbol.name data-paths.consistent.Symbol.code data-paths-said.consistent.ended
       (λ κs a r e. r ≡ consistent a.0)
-  pub data-path-size : Call data-paths.size.Symbol.routine data-paths.size.ended
+  pub data-path-size : Call data-paths.size.Symbol.name data-paths.size.Symbol.code data-paths-said.size.ended
       (λ κs a r e. said_size r ≡ D.size_of a.0)
-  pub data-path-mend : Call data-paths.mend.Symbol.routine data-paths.mend.ended
+  pub data-path-mend : Call data-paths.mend.Symbol.name data-paths.mend.Symbol.code data-paths-said.mend.ended
       (λ κs a r e. r ≡ mended a.0)
-  pub data-path-write : Call data-paths.write.Symbol.routine data-paths.write.ended
+  pub data-path-write : Call data-paths.write.Symbol.name data-paths.write.Symbol.code data-paths-said.write.ended
       (λ κs a r e. Wrote a.1.0.now (D.bytes_of a.0) (said_size r) e.1.0.now)
-  pub data-path-head : Call fields.read_head.Symbol.routine fields.read_head.ended
+  pub data-path-head : Call fields.read_head.Symbol.name fields.read_head.Symbol.code fields-said.read_head.ended
       (λ κs a r e. said_head r ≡ head a.0.now 0)
-  pub data-path-body : Call fields.read_body.Symbol.routine fields.read_body.ended
+  pub data-path-body : Call fields.read_body.Symbol.name fields.read_body.Symbol.code fields-said.read_body.ended
       (λ κs a r e. said_body r ≡ body a.1.1.0 a.0.now a.1.0)
-  pub word-has : Call bits.has.Symbol.routine bits.has.ended
+  pub word-has : Call bits.has.Symbol.name bits.has.Symbol.code bits-said.has.ended
       (λ κs a r e. r ≡ has_any a.0 a.1.0)
-  pub channel-word-from-u16 : Call words.from_u16.Symbol.routine words.from_u16.ended
+  pub channel-word-from-u16 : Call words.from_u16.Symbol.name words.from_u16.Symbol.code words-said.from_u16.ended
       (λ κs a r e. r ≡ channel_of a.0)
-  pub channel-word-as-u16 : Call words.as_u16.Symbol.routine words.as_u16.ended
+  pub channel-word-as-u16 : Call words.as_u16.Symbol.name words.as_u16.Symbol.code words-said.as_u16.ended
       (λ κs a r e. r ≡ word_of a.0)
-  pub unicast-options-from-bits : Call options.from_bits.Symbol.routine options.from_bits.ended
+  pub unicast-options-from-bits : Call options.from_bits.Symbol.name options.from_bits.Symbol.code options-said.from_bits.ended
       (λ κs a r e. r.0 ≡ word_by options_kept a.0)
-  pub extended-flags-from-bits : Call extended.from_bits.Symbol.routine extended.from_bits.ended
+  pub extended-flags-from-bits : Call extended.from_bits.Symbol.name extended.from_bits.Symbol.code extended-said.from_bits.ended
       (λ κs a r e. r.0 ≡ word_by extended_kept a.0)
   -- synchronization records
-  pub synchronization-read : Call synchronizations.read.Symbol.routine synchronizations.read.ended
+  pub synchronization-read : Call synchronizations.read.Symbol.name synchronizations.read.Symbol.code synchronizations-said.read.ended
       (λ κs a r e. r ≡ synchronization_read (synchronization a.0.now 0))
-  pub synchronization-consistent : Call synchronizations.consistent.Symbol.routine synchronizations.consistent.ended
+  pub synchronization-consistent : Call synchronizations.consistent.Symbol.name synchronizations.consistent.Symbol.code synchronizations-said.consistent.ended
       (λ κs a r e. said_consistent r ≡ S.consistent a.0)
-  pub synchronization-size : Call synchronizations.size.Symbol.routine synchronizations.size.ended
+  pub synchronization-size : Call synchronizations.size.Symbol.name synchronizations.size.Symbol.code synchronizations-said.size.ended
       (λ κs a r e. said_size r ≡ S.size_of a.0)
-  pub synchronization-written-size : Call synchronizations.written_size.Symbol.routine synchronizations.written_size.ended
+  pub synchronization-written-size : Call synchronizations.written_size.Symbol.name synchronizations.written_size.Symbol.code synchronizations-said.written_size.ended
       (λ κs a r e. said_size r ≡ length_of (S.bytes_of a.0))
-  pub synchronization-write : Call synchronizations.write.Symbol.routine synchronizations.write.ended
+  pub synchronization-write : Call synchronizations.write.Symbol.name synchronizations.write.Symbol.code synchronizations-said.write.ended
       (λ κs a r e. Wrote a.1.0.now (S.bytes_of a.0) (said_size r) e.1.0.now)
   -- items: a step of the walk, an item's value, the end report, the search for the records of a type, the writer
-  pub step : Call items.step.Symbol.routine items.step.ended
+  pub step : Call items.step.Symbol.name items.step.Symbol.code items-said.step.ended
       (λ κs a r e. r ≡ step_at a.0.now a.1.0)
-  pub step-with-value : Call tlvs.step_with_value.Symbol.routine tlvs.step_with_value.ended
+  pub step-with-value : Call tlvs.step_with_value.Symbol.name tlvs.step_with_value.Symbol.code tlvs-said.step_with_value.ended
       (λ κs a r e. (r.step ≡ step_at a.0.now a.1.0) × (r.value.now ≡ value_at a.0.now a.1.0) × (r.value.ref_ptr ≡ part_at (value_start_at a.0.now a.1.0) a.0.ref_ptr))
-  pub value : Call items.value.Symbol.routine items.value.ended
+  pub value : Call items.value.Symbol.name items.value.Symbol.code items-said.value.ended
       (λ κs a r e. (r.now ≡ value_of a.0.now a.1.0) × (r.ref_ptr ≡ part_at (value_start a.0.now a.1.0) a.0.ref_ptr))
-  pub end : Call items.end.Symbol.routine items.end.ended
+  pub end : Call items.end.Symbol.name items.end.Symbol.code items-said.end.ended
       (λ κs a r e. said_end r ≡ end_report (walk a.0.now))
-  pub next-data-path : Call tlvs.next_data_path.Symbol.routine tlvs.next_data_path.ended
+  pub next-data-path : Call tlvs.next_data_path.Symbol.name tlvs.next_data_path.Symbol.code tlvs-said.next_data_path.ended
       (λ κs a r e. said_found_data_path r ≡ next_data_path a.0.now a.1.0)
-  pub first-data-path : Call tlvs.first_data_path.Symbol.routine tlvs.first_data_path.ended
+  pub first-data-path : Call tlvs.first_data_path.Symbol.name tlvs.first_data_path.Symbol.code tlvs-said.first_data_path.ended
       (λ κs a r e. said_found_data_path r ≡ next_data_path a.0.now 0)
-  pub next-synchronization : Call tlvs.next_synchronization.Symbol.routine tlvs.next_synchronization.ended
+  pub next-synchronization : Call tlvs.next_synchronization.Symbol.name tlvs.next_synchronization.Symbol.code tlvs-said.next_synchronization.ended
       (λ κs a r e. r ≡ synchronization_found (next_synchronization a.0.now a.1.0))
-  pub first-synchronization : Call tlvs.first_synchronization.Symbol.routine tlvs.first_synchronization.ended
+  pub first-synchronization : Call tlvs.first_synchronization.Symbol.name tlvs.first_synchronization.Symbol.code tlvs-said.first_synchronization.ended
       (λ κs a r e. r ≡ synchronization_found (next_synchronization a.0.now 0))
-  pub next-channel-sequence : Call tlvs.next_channel_sequence.Symbol.routine tlvs.next_channel_sequence.ended
+  pub next-channel-sequence : Call tlvs.next_channel_sequence.Symbol.name tlvs.next_channel_sequence.Symbol.code tlvs-said.next_channel_sequence.ended
       (λ κs a r e. r ≡ channel_sequence_found (next_channel_sequence a.0.now a.1.0))
-  pub first-channel-sequence : Call tlvs.first_channel_sequence.Symbol.routine tlvs.first_channel_sequence.ended
+  pub first-channel-sequence : Call tlvs.first_channel_sequence.Symbol.name tlvs.first_channel_sequence.Symbol.code tlvs-said.first_channel_sequence.ended
       (λ κs a r e. r ≡ channel_sequence_found (next_channel_sequence a.0.now 0))
-  pub write-item : Call items.write_item.Symbol.routine items.write_item.ended
+  pub write-item : Call items.write_item.Symbol.name items.write_item.Symbol.code items-said.write_item.ended
       (λ κs a r e. Wrote a.1.1.0.now (item_bytes a.0 a.1.0.now) (said_size r) e.1.1.0.now)
   -- the reader that keeps its bytes and its place together
-  pub read-tlvs-new : Call readers.new.Symbol.routine readers.new.ended
+  pub read-tlvs-new : Call readers.new.Symbol.name readers.new.Symbol.code readers-said.new.ended
       (λ κs a r e. (r.bytes ≡ a.0) × (r.at ≡ 0))
-  pub read-tlvs-go-on : Call readers.go_on.Symbol.routine readers.go_on.ended
+  pub read-tlvs-go-on : Call readers.go_on.Symbol.name readers.go_on.Symbol.code readers-said.go_on.ended
       (λ κs a r e. (r.bytes ≡ a.0.bytes) × (r.at ≡ a.1.0))
-  pub read-tlvs-next : Call readers.next.Symbol.routine readers.next.ended
+  pub read-tlvs-next : Call readers.next.Symbol.name readers.next.Symbol.code readers-said.next.ended
       (λ κs a r e. (r.step ≡ step_at a.0.bytes.now a.0.at) × (r.value.now ≡ value_at a.0.bytes.now a.0.at) × (r.value.ref_ptr ≡ part_at (value_start_at a.0.bytes.now a.0.at) a.0.bytes.ref_ptr))
-  pub read-tlvs-first-data-path : Call readers.first_data_path.Symbol.routine readers.first_data_path.ended
+  pub read-tlvs-first-data-path : Call readers.first_data_path.Symbol.name readers.first_data_path.Symbol.code readers-said.first_data_path.ended
       (λ κs a r e. said_found_data_path r ≡ next_data_path a.0.bytes.now a.0.at)
-  pub read-tlvs-first-synchronization : Call readers.first_synchronization.Symbol.routine readers.first_synchronization.ended
+  pub read-tlvs-first-synchronization : Call readers.first_synchronization.Symbol.name readers.first_synchronization.Symbol.code readers-said.first_synchronization.ended
       (λ κs a r e. r ≡ synchronization_found (next_synchronization a.0.bytes.now a.0.at))
-  pub read-tlvs-first-channel-sequence : Call readers.first_channel_sequence.Symbol.routine readers.first_channel_sequence.ended
+  pub read-tlvs-first-channel-sequence : Call readers.first_channel_sequence.Symbol.name readers.first_channel_sequence.Symbol.code readers-said.first_channel_sequence.ended
       (λ κs a r e. r ≡ channel_sequence_found (next_channel_sequence a.0.bytes.now a.0.at))
   -- frames: the header, the tail, offsets in the frame, the writer; the gap between the stamps
-  pub frame-read : Call frames.read.Symbol.routine frames.read.ended
+  pub frame-read : Call frames.read.Symbol.name frames.read.Symbol.code frames-said.read.ended
       (λ κs a r e. said_frame r ≡ header a.0.now 0)
-  pub frame-tail : Call frames.tail.Symbol.routine frames.tail.ended
+  pub frame-tail : Call frames.tail.Symbol.name frames.tail.Symbol.code frames-said.tail.ended
       (λ κs a r e. (r.now ≡ tail_of a.0.now) × (r.ref_ptr ≡ part_at (min 12 (length a.0.now)) a.0.ref_ptr))
-  pub offset-in-frame : Call frames.offset_in_frame.Symbol.routine frames.offset_in_frame.ended
+  pub offset-in-frame : Call frames.offset_in_frame.Symbol.name frames.offset_in_frame.Symbol.code frames-said.offset_in_frame.ended
       (λ κs a r e. r ≡ offset_in_frame a.0.now a.1.0 a.1.1.0)
-  pub frame-write : Call frames.write.Symbol.routine frames.write.ended
+  pub frame-write : Call frames.write.Symbol.name frames.write.Symbol.code frames-said.write.ended
       (λ κs a r e. Wrote a.1.1.0.now (answer (F.bytes_of a.0 a.1.0.now)) (said_size r) e.1.1.0.now)
-  pub tx-delta : Call stamps.tx_delta.Symbol.routine stamps.tx_delta.ended
+  pub tx-delta : Call stamps.tx_delta.Symbol.name stamps.tx_delta.Symbol.code stamps-said.tx_delta.ended
       (λ κs a r e. r ≡ delta a.0 a.1.0)
   -- the report: its first mark, and the line at a mark in the buffer that was lent
-  pub report-dump-start : Call report.dump_start.Symbol.routine report.dump_start.ended
+  pub report-dump-start : Call report.dump_start.Symbol.name report.dump_start.Symbol.code report-said.dump_start.ended
       (λ κs a r e. r ≡ first_mark a.0.now)
-  pub report-next-line : Call report.next_line.Symbol.routine report.next_line.ended
+  pub report-next-line : Call report.next_line.Symbol.name report.next_line.Symbol.code report-said.next_line.ended
       (λ κs a r e. Shows a.1.1.0.now (stands_at a.0.now a.1.0) r e.1.1.0.now)
   -- the calls for other languages: what each lays down
-  pub awdl-frame-read : Call exports.awdl_frame_read.Symbol.routine exports.awdl_frame_read.ended
+  pub awdl-frame-read : Call exports.awdl_frame_read.Symbol.name exports.awdl_frame_read.Symbol.code exports-said.awdl_frame_read.ended
       (λ κs a r e. ToldReading frame_numbers (outcome F.zero_frame 0 (header a.0.now 0)) r e.1.0.now e.1.1.0.now e.1.1.1.0.now)
-  pub awdl-frame-write : Call exports.awdl_frame_write.Symbol.routine exports.awdl_frame_write.ended
+  pub awdl-frame-write : Call exports.awdl_frame_write.Symbol.name exports.awdl_frame_write.Symbol.code exports-said.awdl_frame_write.ended
       (λ κs a r e. ToldWriting a.1.1.0.now (frame_bytes a.0.now a.1.0.now) r e.1.1.1.0.now e.1.1.0.now)
-  pub awdl-tx-delta : Call exports.awdl_tx_delta.Symbol.routine exports.awdl_tx_delta.ended
+  pub awdl-tx-delta : Call exports.awdl_tx_delta.Symbol.name exports.awdl_tx_delta.Symbol.code exports-said.awdl_tx_delta.ended
       (λ κs a r e. r ≡ delta (record { 0 = a.0 }) (record { 0 = a.1.0 }))
-  pub awdl-write-item : Call exports.awdl_write_item.Symbol.routine exports.awdl_write_item.ended
+  pub awdl-write-item : Call exports.awdl_write_item.Symbol.name exports.awdl_write_item.Symbol.code exports-said.awdl_write_item.ended
       (λ κs a r e. ToldWriting a.1.1.0.now (item_bytes_in a.0 a.1.0.now) r e.1.1.1.0.now e.1.1.0.now)
-  pub awdl-step : Call exports.awdl_step.Symbol.routine exports.awdl_step.ended
+  pub awdl-step : Call exports.awdl_step.Symbol.name exports.awdl_step.Symbol.code exports-said.awdl_step.ended
       (λ κs a r e. ToldStep (step_at a.0.now a.1.0) r e.1.1.0.now)
-  pub awdl-next-data-path : Call exports.awdl_next_data_path.Symbol.routine exports.awdl_next_data_path.ended
+  pub awdl-next-data-path : Call exports.awdl_next_data_path.Symbol.name exports.awdl_next_data_path.Symbol.code exports-said.awdl_next_data_path.ended
       (λ κs a r e. ToldSearch data_path_numbers zero_data_path (next_data_path a.0.now a.1.0) r e.1.1.0.now e.1.1.1.0.now)
-  pub awdl-first-data-path : Call exports.awdl_first_data_path.Symbol.routine exports.awdl_first_data_path.ended
+  pub awdl-first-data-path : Call exports.awdl_first_data_path.Symbol.name exports.awdl_first_data_path.Symbol.code exports-said.awdl_first_data_path.ended
       (λ κs a r e. ToldSearch data_path_numbers zero_data_path (next_data_path a.0.now 0) r e.1.0.now e.1.1.0.now)
-  pub awdl-next-synchronization : Call exports.awdl_next_synchronization.Symbol.routine exports.awdl_next_synchronization.ended
+  pub awdl-next-synchronization : Call exports.awdl_next_synchronization.Symbol.name exports.awdl_next_synchronization.Symbol.code exports-said.awdl_next_synchronization.ended
       (λ κs a r e. ToldSearch synchronization_numbers zero_synchronization (next_synchronization a.0.now a.1.0) r e.1.1.0.now e.1.1.1.0.now)
-  pub awdl-first-synchronization : Call exports.awdl_first_synchronization.Symbol.routine exports.awdl_first_synchronization.ended
+  pub awdl-first-synchronization : Call exports.awdl_first_synchronization.Symbol.name exports.awdl_first_synchronization.Symbol.code exports-said.awdl_first_synchronization.ended
       (λ κs a r e. ToldSearch synchronization_numbers zero_synchronization (next_synchronization a.0.now 0) r e.1.0.now e.1.1.0.now)
-  pub awdl-next-channel-sequence : Call exports.awdl_next_channel_sequence.Symbol.routine exports.awdl_next_channel_sequence.ended
+  pub awdl-next-channel-sequence : Call exports.awdl_next_channel_sequence.Symbol.name exports.awdl_next_channel_sequence.Symbol.code exports-said.awdl_next_channel_sequence.ended
       (λ κs a r e. ToldSearch X.channel_sequence_numbers C.zero_channel_sequence (next_channel_sequence a.0.now a.1.0) r e.1.1.0.now e.1.1.1.0.now)
-  pub awdl-first-channel-sequence : Call exports.awdl_first_channel_sequence.Symbol.routine exports.awdl_first_channel_sequence.ended
+  pub awdl-first-channel-sequence : Call exports.awdl_first_channel_sequence.Symbol.name exports.awdl_first_channel_sequence.Symbol.code exports-said.awdl_first_channel_sequence.ended
       (λ κs a r e. ToldSearch X.channel_sequence_numbers C.zero_channel_sequence (next_channel_sequence a.0.now 0) r e.1.0.now e.1.1.0.now)
-  pub awdl-data-path-read : Call exports.awdl_data_path_read.Symbol.routine exports.awdl_data_path_read.ended
+  pub awdl-data-path-read : Call exports.awdl_data_path_read.Symbol.name exports.awdl_data_path_read.Symbol.code exports-said.awdl_data_path_read.ended
       (λ κs a r e. ToldReading data_path_numbers (outcome zero_data_path 0 (data_path a.0.now 0)) r e.1.0.now e.1.1.0.now e.1.1.1.0.now)
-  pub awdl-data-path-consistent : Call exports.awdl_data_path_consistent.Symbol.routine exports.awdl_data_path_consistent.ended
+  pub awdl-data-path-consistent : Call exports.awdl_data_path_consistent.Symbol.name exports.awdl_data_path_consistent.Symbol.code exports-said.awdl_data_path_consistent.ended
       (λ κs a r e. ToldNumber (result 0 (data_path_consistent a.0.now)) r e.1.0.now)
-  pub awdl-data-path-mend : Call exports.awdl_data_path_mend.Symbol.routine exports.awdl_data_path_mend.ended
+  pub awdl-data-path-mend : Call exports.awdl_data_path_mend.Symbol.name exports.awdl_data_path_mend.Symbol.code exports-said.awdl_data_path_mend.ended
       (λ κs a r e. ToldRecord data_path_numbers (result zero_data_path (data_path_mended a.0.now)) r e.1.0.now)
-  pub awdl-data-path-size : Call exports.awdl_data_path_size.Symbol.routine exports.awdl_data_path_size.ended
+  pub awdl-data-path-size : Call exports.awdl_data_path_size.Symbol.name exports.awdl_data_path_size.Symbol.code exports-said.awdl_data_path_size.ended
       (λ κs a r e. ToldNumber (result 0 (data_path_size a.0.now)) r e.1.0.now)
-  pub awdl-data-path-write : Call exports.awdl_data_path_write.Symbol.routine exports.awdl_data_path_write.ended
+  pub awdl-data-path-write : Call exports.awdl_data_path_write.Symbol.name exports.awdl_data_path_write.Symbol.code exports-said.awdl_data_path_write.ended
       (λ κs a r e. ToldWriting a.1.0.now (data_path_bytes a.0.now) r e.1.1.0.now e.1.0.now)
-  pub awdl-synchronization-read : Call exports.awdl_synchronization_read.Symbol.routine exports.awdl_synchronization_read.ended
+  pub awdl-synchronization-read : Call exports.awdl_synchronization_read.Symbol.name exports.awdl_synchronization_read.Symbol.code exports-said.awdl_synchronization_read.ended
       (λ κs a r e. ToldReading synchronization_numbers (outcome zero_synchronization 0 (synchronization a.0.now 0)) r e.1.0.now e.1.1.0.now e.1.1.1.0.now)
-  pub awdl-synchronization-consistent : Call exports.awdl_synchronization_consistent.Symbol.routine exports.awdl_synchronization_consistent.ended
+  pub awdl-synchronization-consistent : Call exports.awdl_synchronization_consistent.Symbol.name exports.awdl_synchronization_consistent.Symbol.code exports-said.awdl_synchronization_consistent.ended
       (λ κs a r e. ToldNumber (result 0 (synchronization_consistent a.0.now)) r e.1.0.now)
-  pub awdl-synchronization-size : Call exports.awdl_synchronization_size.Symbol.routine exports.awdl_synchronization_size.ended
+  pub awdl-synchronization-size : Call exports.awdl_synchronization_size.Symbol.name exports.awdl_synchronization_size.Symbol.code exports-said.awdl_synchronization_size.ended
       (λ κs a r e. ToldNumber (result 0 (synchronization_size a.0.now)) r e.1.0.now)
-  pub awdl-synchronization-write : Call exports.awdl_synchronization_write.Symbol.routine exports.awdl_synchronization_write.ended
+  pub awdl-synchronization-write : Call exports.awdl_synchronization_write.Symbol.name exports.awdl_synchronization_write.Symbol.code exports-said.awdl_synchronization_write.ended
       (λ κs a r e. ToldWriting a.1.0.now (synchronization_bytes a.0.now) r e.1.1.0.now e.1.0.now)
-  pub awdl-channel-sequence-read : Call exports.awdl_channel_sequence_read.Symbol.routine exports.awdl_channel_sequence_read.ended
+  pub awdl-channel-sequence-read : Call exports.awdl_channel_sequence_read.Symbol.name exports.awdl_channel_sequence_read.Symbol.code exports-said.awdl_channel_sequence_read.ended
       (λ κs a r e. ToldReading X.channel_sequence_numbers (outcome C.zero_channel_sequence a.1.0 (channel_sequence_record a.0.now a.1.0)) r e.1.1.0.now e.1.1.1.0.now e.1.1.1.1.0.now)
-  pub awdl-channel-sequence-consistent : Call exports.awdl_channel_sequence_consistent.Symbol.routine exports.awdl_channel_sequence_consistent.ended
+  pub awdl-channel-sequence-consistent : Call exports.awdl_channel_sequence_consistent.Symbol.name exports.awdl_channel_sequence_consistent.Symbol.code exports-said.awdl_channel_sequence_consistent.ended
       (λ κs a r e. ToldNumber (result 0 (X.channel_sequence_consistent a.0.now)) r e.1.0.now)
-  pub awdl-channel-sequence-size : Call exports.awdl_channel_sequence_size.Symbol.routine exports.awdl_channel_sequence_size.ended
+  pub awdl-channel-sequence-size : Call exports.awdl_channel_sequence_size.Symbol.name exports.awdl_channel_sequence_size.Symbol.code exports-said.awdl_channel_sequence_size.ended
       (λ κs a r e. ToldNumber (result 0 (X.channel_sequence_size a.0.now)) r e.1.0.now)
-  pub awdl-channel-sequence-write : Call exports.awdl_channel_sequence_write.Symbol.routine exports.awdl_channel_sequence_write.ended
+  pub awdl-channel-sequence-write : Call exports.awdl_channel_sequence_write.Symbol.name exports.awdl_channel_sequence_write.Symbol.code exports-said.awdl_channel_sequence_write.ended
       (λ κs a r e. ToldWriting a.1.0.now (X.channel_sequence_bytes a.0.now) r e.1.1.0.now e.1.0.now)
-  pub awdl-sequence-read : Call exports.awdl_sequence_read.Symbol.routine exports.awdl_sequence_read.ended
+  pub awdl-sequence-read : Call exports.awdl_sequence_read.Symbol.name exports.awdl_sequence_read.Symbol.code exports-said.awdl_sequence_read.ended
       (λ κs a r e. ToldReading X.sequence_numbers (outcome Q.zero_sequence a.1.0 (X.sequence_read_in a.1.1.0 a.0.now a.1.0)) r e.1.1.1.0.now e.1.1.1.1.0.now e.1.1.1.1.1.0.now)
-  pub awdl-sequence-consistent : Call exports.awdl_sequence_consistent.Symbol.routine exports.awdl_sequence_consistent.ended
+  pub awdl-sequence-consistent : Call exports.awdl_sequence_consistent.Symbol.name exports.awdl_sequence_consistent.Symbol.code exports-said.awdl_sequence_consistent.ended
       (λ κs a r e. ToldNumber (result 0 (X.sequence_consistent a.0.now)) r e.1.0.now)
-  pub awdl-sequence-size : Call exports.awdl_sequence_size.Symbol.routine exports.awdl_sequence_size.ended
+  pub awdl-sequence-size : Call exports.awdl_sequence_size.Symbol.name exports.awdl_sequence_size.Symbol.code exports-said.awdl_sequence_size.ended
       (λ κs a r e. ToldNumber (result 0 (X.sequence_size a.0.now)) r e.1.0.now)
-  pub awdl-sequence-write : Call exports.awdl_sequence_write.Symbol.routine exports.awdl_sequence_write.ended
+  pub awdl-sequence-write : Call exports.awdl_sequence_write.Symbol.name exports.awdl_sequence_write.Symbol.code exports-said.awdl_sequence_write.ended
       (λ κs a r e. ToldWriting a.1.0.now (X.sequence_bytes a.0.now) r e.1.1.0.now e.1.0.now)
-  pub awdl-sequence-entry : Call exports.awdl_sequence_entry.Symbol.routine exports.awdl_sequence_entry.ended
+  pub awdl-sequence-entry : Call exports.awdl_sequence_entry.Symbol.name exports.awdl_sequence_entry.Symbol.code exports-said.awdl_sequence_entry.ended
       (λ κs a r e. ToldHop (result H.nothing (X.sequence_entry a.0.now a.1.0)) r e.1.1.0.now e.1.1.1.0.now)
-  pub awdl-sequence-to-simple : Call exports.awdl_sequence_to_simple.Symbol.routine exports.awdl_sequence_to_simple.ended
+  pub awdl-sequence-to-simple : Call exports.awdl_sequence_to_simple.Symbol.name exports.awdl_sequence_to_simple.Symbol.code exports-said.awdl_sequence_to_simple.ended
       (λ κs a r e. ToldRecord X.sequence_numbers (result Q.zero_sequence (X.sequence_simple a.0.now)) r e.1.0.now)
-  pub awdl-channel : Call exports.awdl_channel.Symbol.routine exports.awdl_channel.ended
+  pub awdl-channel : Call exports.awdl_channel.Symbol.name exports.awdl_channel.Symbol.code exports-said.awdl_channel.ended
       (λ κs a r e. ToldNumber (result 0 (X.corrected_of a.0.now)) r e.1.0.now)
-  pub awdl-judge : Call exports.awdl_judge.Symbol.routine exports.awdl_judge.ended
+  pub awdl-judge : Call exports.awdl_judge.Symbol.name exports.awdl_judge.Symbol.code exports-said.awdl_judge.ended
       (λ κs a r e. ToldPlaced (judged_result (judged_in a.0.now a.1.0.now a.1.1.0)) r e.1.1.1.0.now e.1.1.1.1.0.now)
-  pub awdl-own-proposal : Call exports.awdl_own_proposal.Symbol.routine exports.awdl_own_proposal.ended
+  pub awdl-own-proposal : Call exports.awdl_own_proposal.Symbol.name exports.awdl_own_proposal.Symbol.code exports-said.awdl_own_proposal.ended
       (λ κs a r e. ToldPlaced (result 0 (proposed a.0.now a.1.0.now)) r e.1.1.0.now e.1.1.1.0.now)
-  pub awdl-channel-load : Call exports.awdl_channel_load.Symbol.routine exports.awdl_channel_load.ended
+  pub awdl-channel-load : Call exports.awdl_channel_load.Symbol.name exports.awdl_channel_load.Symbol.code exports-said.awdl_channel_load.ended
       (λ κs a r e. ToldPlaced (result 0 (load_of a.0.now a.1.0)) r e.1.1.0.now e.1.1.1.0.now)
 
 pub every_call : EveryCall
