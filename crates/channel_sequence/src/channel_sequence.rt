@@ -16,7 +16,7 @@ use channel::{Channel, ChannelEncoding, FoundEncoding, LegacyFlags};
 use wire::{Place, Refusal, Size};
 
 // Sixteen entries in one encoding. In a consistent sequence the bytes that the encoding does not use are 0.
-#[derive(Drop)]
+#[derive(Clone, Copy)]
 pub struct ChannelSequence {
     pub encoding: u8,
     pub bytes: [u8; 32],

@@ -11,7 +11,7 @@ use channel_sequence::{ChannelSequence, Consistency};
 use wire::{AWDLTLVType, Place, Refusal, Size};
 
 // The sequence that a peer hops over, with what stands in front of it. A synchronization value holds the same behind its fixed part.
-#[derive(Drop)]
+#[derive(Clone, Copy)]
 pub struct ChannelSequenceTLV {
     pub duplicate_count: u8,
     pub step_count: u8,
