@@ -2,7 +2,7 @@ use data_path_words::{DataPathChannel, DataPathExtendedFlags, DataPathStats, Uni
 use wire::MACAddress;
 
 // A field that may be missing is a flag beside its value, and the value is zero where it is missing.
-#[derive(Drop)]
+#[derive(Clone, Copy)]
 pub struct CountryCode {
     pub present: bool,
     pub first: u8,
@@ -11,50 +11,50 @@ pub struct CountryCode {
     pub pad: u8,
 }
 
-#[derive(Drop)]
+#[derive(Clone, Copy)]
 pub struct OptionalChannel {
     pub present: bool,
     pub channel: DataPathChannel,
 }
 
-#[derive(Drop)]
+#[derive(Clone, Copy)]
 pub struct InfraBssidChannel {
     pub present: bool,
     pub bssid: MACAddress,
     pub channel: u16,
 }
 
-#[derive(Drop)]
+#[derive(Clone, Copy)]
 pub struct OptionalAddress {
     pub present: bool,
     pub address: MACAddress,
 }
 
-#[derive(Drop)]
+#[derive(Clone, Copy)]
 pub struct OptionalOptions {
     pub present: bool,
     pub options: UnicastOptions,
 }
 
-#[derive(Drop)]
+#[derive(Clone, Copy)]
 pub struct OptionalWord {
     pub present: bool,
     pub word: u32,
 }
 
-#[derive(Drop)]
+#[derive(Clone, Copy)]
 pub struct OptionalExtendedFlags {
     pub present: bool,
     pub flags: DataPathExtendedFlags,
 }
 
-#[derive(Drop)]
+#[derive(Clone, Copy)]
 pub struct OptionalTriggerId {
     pub present: bool,
     pub id: u16,
 }
 
-#[derive(Drop)]
+#[derive(Clone, Copy)]
 pub struct OptionalStats {
     pub present: bool,
     pub stats: DataPathStats,

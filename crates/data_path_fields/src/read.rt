@@ -14,7 +14,7 @@ use data_path_words::{
 };
 use wire::{MACAddress, Place, ReadAddress, ReadU16, ReadU32, Refusal};
 
-#[derive(Drop)]
+#[derive(Clone, Copy)]
 pub(crate) enum ReadCountry {
     Read(CountryCode, usize),
     Refused(Refusal),
@@ -48,7 +48,7 @@ fn country_code(s: &[u8], at: usize, present: bool) -> ReadCountry
     }
 }
 
-#[derive(Drop)]
+#[derive(Clone, Copy)]
 pub(crate) enum ReadChannel {
     Read(OptionalChannel, usize),
     Refused(Refusal),
@@ -84,14 +84,14 @@ fn channel_map(s: &[u8], at: usize, present: bool) -> ReadChannel
 
 // What stands in front of the addresses. This part of the record, those below, and the readers of
 // the head and of the body are public only because the record stands in a crate of its own.
-#[derive(Drop)]
+#[derive(Clone, Copy)]
 pub struct Head {
     pub flags: u16,
     pub country: CountryCode,
     pub channel: OptionalChannel,
 }
 
-#[derive(Drop)]
+#[derive(Clone, Copy)]
 pub enum ReadHead {
     Read(Head, usize),
     Refused(Refusal),
@@ -127,7 +127,7 @@ pub fn read_head(s: &[u8]) -> ReadHead
     }
 }
 
-#[derive(Drop)]
+#[derive(Clone, Copy)]
 pub(crate) enum ReadInfra {
     Read(InfraBssidChannel, usize),
     Refused(Refusal),
@@ -171,7 +171,7 @@ fn infra_bssid_channel(s: &[u8], at: usize, present: bool) -> ReadInfra
     }
 }
 
-#[derive(Drop)]
+#[derive(Clone, Copy)]
 pub(crate) enum ReadOptionalAddress {
     Read(OptionalAddress, usize),
     Refused(Refusal),
@@ -203,14 +203,14 @@ fn one_address(s: &[u8], at: usize, present: bool) -> ReadOptionalAddress
 }
 
 // A part of the body, and public only for that.
-#[derive(Drop)]
+#[derive(Clone, Copy)]
 pub struct Addresses {
     pub bssid: InfraBssidChannel,
     pub infra: OptionalAddress,
     pub awdl: OptionalAddress,
 }
 
-#[derive(Drop)]
+#[derive(Clone, Copy)]
 pub(crate) enum ReadAddresses {
     Read(Addresses, usize),
     Refused(Refusal),
@@ -238,7 +238,7 @@ fn read_addresses(s: &[u8], at: usize, flags: u16) -> ReadAddresses
     }
 }
 
-#[derive(Drop)]
+#[derive(Clone, Copy)]
 pub(crate) enum ReadWord {
     Read(OptionalWord, usize),
     Refused(Refusal),
@@ -270,13 +270,13 @@ fn one_word(s: &[u8], at: usize, present: bool) -> ReadWord
 
 // The options, and the word that follows them where the length is 8. It is a part of the body, and
 // public only for that.
-#[derive(Drop)]
+#[derive(Clone, Copy)]
 pub struct Unicast {
     pub options: OptionalOptions,
     pub ext: OptionalWord,
 }
 
-#[derive(Drop)]
+#[derive(Clone, Copy)]
 pub(crate) enum ReadUnicast {
     Read(Unicast, usize),
     Refused(Refusal),
@@ -328,7 +328,7 @@ fn read_unicast(s: &[u8], at: usize, present: bool) -> ReadUnicast
     }
 }
 
-#[derive(Drop)]
+#[derive(Clone, Copy)]
 pub(crate) enum ReadTriggerId {
     Read(OptionalTriggerId, usize),
     Refused(Refusal),
@@ -354,7 +354,7 @@ fn log_trigger_id(s: &[u8], at: usize, present: bool) -> ReadTriggerId
     }
 }
 
-#[derive(Drop)]
+#[derive(Clone, Copy)]
 pub(crate) enum ReadStats {
     Read(OptionalStats, usize),
     Refused(Refusal),
@@ -410,7 +410,7 @@ fn stats(s: &[u8], at: usize, present: bool) -> ReadStats
 
 // The extended flags, and the fields that they announce. It is a part of the body, and public only
 // for that.
-#[derive(Drop)]
+#[derive(Clone, Copy)]
 pub struct Extended {
     pub flags: OptionalExtendedFlags,
     pub trigger: OptionalTriggerId,
@@ -418,7 +418,7 @@ pub struct Extended {
     pub stats: OptionalStats,
 }
 
-#[derive(Drop)]
+#[derive(Clone, Copy)]
 pub(crate) enum ReadExtended {
     Read(Extended, usize),
     Refused(Refusal),
@@ -508,14 +508,14 @@ fn read_extended(s: &[u8], at: usize, present: bool) -> ReadExtended
 }
 
 // What stands behind the channel word. As the head, it is public for the crate of the record.
-#[derive(Drop)]
+#[derive(Clone, Copy)]
 pub struct Body {
     pub addresses: Addresses,
     pub unicast: Unicast,
     pub extended: Extended,
 }
 
-#[derive(Drop)]
+#[derive(Clone, Copy)]
 pub enum ReadBody {
     Read(Body, usize),
     Refused(Refusal),

@@ -9,7 +9,7 @@ pub fn has(word: u16, mask: u16) -> bool
     word & mask != 0
 }
 
-#[derive(Drop)]
+#[derive(Clone, Copy)]
 pub struct DataPathFlags(pub u16);
 
 impl DataPathFlags {
@@ -46,7 +46,7 @@ impl DataPathFlags {
     pub const EXTENDED_FLAGS: u16 = 1 << 15;
 }
 
-#[derive(Drop)]
+#[derive(Clone, Copy)]
 pub struct DataPathExtendedFlags(pub u16);
 
 impl DataPathExtendedFlags {

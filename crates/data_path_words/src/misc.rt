@@ -2,14 +2,14 @@ ghost use Rattle.std.specs.Prelude.{◌≡◌};
 ghost use Rattle.wire.specs.Words.{word_by};
 ghost use Rattle.data_path_words.specs.Words.{channel_of, word_of, options_kept};
 
-#[derive(Drop)]
+#[derive(Clone, Copy)]
 pub struct DataPathStats {
     pub msec_since_activation: u32,
     pub aw_seq_counter: u32,
     pub pay_update_coutner: u32,
 }
 
-#[derive(Drop)]
+#[derive(Clone, Copy)]
 pub struct ChannelMap(pub u16);
 
 impl ChannelMap {
@@ -22,7 +22,7 @@ impl ChannelMap {
     pub const KEEP: u16 = ChannelMap::CHANNEL_6 | ChannelMap::CHANNEL_44 | ChannelMap::CHANNEL_149;
 }
 
-#[derive(Drop)]
+#[derive(Clone, Copy)]
 pub enum DataPathChannel {
     SingleChannel(u8),
     ChannelMap(ChannelMap),
@@ -48,7 +48,7 @@ impl DataPathChannel {
     }
 }
 
-#[derive(Drop)]
+#[derive(Clone, Copy)]
 pub struct UnicastOptions(pub u32);
 
 impl UnicastOptions {
