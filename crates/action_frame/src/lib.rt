@@ -15,14 +15,14 @@ use tlv_items::Item;
 use wire::{Place, ReadU8, ReadU32, Refusal, Size};
 
 // When the radio began to send the frame, in microseconds.
-#[derive(Drop)]
+#[derive(Clone, Copy)]
 pub struct PhyTxTime(pub u32);
 
 // When the driver handed the frame to the radio, in microseconds.
-#[derive(Drop)]
+#[derive(Clone, Copy)]
 pub struct TargetTxTime(pub u32);
 
-#[derive(Drop)]
+#[derive(Clone, Copy)]
 pub struct AWDLActionFrame {
     pub subtype: u8,
     // What it means is not known, so it is written again as it was read.
@@ -32,14 +32,14 @@ pub struct AWDLActionFrame {
 }
 
 // The header with its size, or why there is none.
-#[derive(Drop)]
+#[derive(Clone, Copy)]
 pub enum ReadFrame {
     Read(AWDLActionFrame, usize),
     Refused(Refusal),
 }
 
 // An offset that counts from the start of the frame.
-#[derive(Drop)]
+#[derive(Clone, Copy)]
 pub enum InFrame {
     At(usize),
     // The item does not lie within the frame, or the offset lies past the end of its value.

@@ -30,7 +30,7 @@ pub fn put_decimal(buf: &mut [u8], at: usize, n: u64) -> usize
 }
 
 // The number that a word writes, or that it writes none.
-#[derive(Drop)]
+#[derive(Clone, Copy)]
 pub enum Decimal {
     Number(u64),
     No,
@@ -39,6 +39,7 @@ pub enum Decimal {
 const MOST: u64 = 18446744073709551615;
 
 // The number that has one digit more than n, if the letter is a digit and the number still fits.
+#[tactic(auto, unfolding(crate::specs::Words::digits_of))]
 fn with_digit(n: u64, letter: u8) -> Decimal
     ensures { said_decimal result ≡ in64_bits (digits_of n (letter ∷ [])) }
 {

@@ -48,7 +48,7 @@ pub fn put_hex(buf: &mut [u8], at: usize, bytes: &[u8]) -> usize
 }
 
 // The bytes that were put, by the place behind them; or why none were.
-#[derive(Drop)]
+#[derive(Clone, Copy)]
 pub enum HexBytes {
     Put(usize),
     NoRoom,
@@ -57,7 +57,7 @@ pub enum HexBytes {
 }
 
 // The number that one or two hex digits write.
-#[derive(Drop)]
+#[derive(Clone, Copy)]
 pub(crate) enum HexNumber {
     Is(u8),
     No,
