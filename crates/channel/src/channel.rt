@@ -18,7 +18,7 @@ pub enum ChannelEncoding {
     OpClass,
 }
 
-#[derive(Drop)]
+#[derive(Clone, Copy)]
 pub enum FoundEncoding {
     Known(ChannelEncoding),
     Refused(Refusal),
@@ -115,14 +115,14 @@ impl LegacyFlags {
 }
 
 // The two bytes of an entry. A simple channel has one, and its second is 0.
-#[derive(Drop)]
+#[derive(Clone, Copy)]
 pub struct Channel {
     pub encoding: u8,
     pub first: u8,
     pub second: u8,
 }
 
-#[derive(Drop)]
+#[derive(Clone, Copy)]
 pub enum Corrected {
     Channel(u8),
     Refused(Refusal),

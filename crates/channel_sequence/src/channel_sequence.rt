@@ -23,33 +23,33 @@ pub struct ChannelSequence {
 }
 
 // The place behind the sequence, or why there is none; the sequence is then the zero one.
-#[derive(Drop)]
+#[derive(Clone, Copy)]
 pub struct ReadSequence {
     pub answer: Place,
     pub sequence: ChannelSequence,
 }
 
-#[derive(Drop)]
+#[derive(Clone, Copy)]
 pub enum Making {
     Made,
     Refused(Refusal),
 }
 
 // A sequence that was made of something else, or why there is none; it is then the zero one.
-#[derive(Drop)]
+#[derive(Clone, Copy)]
 pub struct MadeSequence {
     pub answer: Making,
     pub sequence: ChannelSequence,
 }
 
-#[derive(Drop)]
+#[derive(Clone, Copy)]
 pub enum Consistency {
     Yes,
     No,
     Refused(Refusal),
 }
 
-#[derive(Drop)]
+#[derive(Clone, Copy)]
 pub enum Entry {
     Channel(Channel),
     // No such item.

@@ -20,7 +20,7 @@ pub struct ChannelSequenceTLV {
 }
 
 // The place behind the record, or why there is none; the record is then the zero one.
-#[derive(Drop)]
+#[derive(Clone, Copy)]
 pub struct ReadChannelSequence {
     pub answer: Place,
     pub channels: ChannelSequenceTLV,

@@ -14,7 +14,7 @@ use channel_sequence_tlv::ChannelSequenceTLV;
 use wire::{AWDLTLVType, MACAddress, Place, Refusal, Size};
 
 // The timing that a peer announces, and the sequence that it hops over. What stands behind these in the value is no part of the record.
-#[derive(Drop)]
+#[derive(Clone, Copy)]
 pub struct SynchronizationParametersTLV {
     pub next_channel: u8,
     pub tx_counter: u16,
@@ -40,7 +40,7 @@ pub struct SynchronizationParametersTLV {
 }
 
 // The place behind the record, or why there is none; the record is then the zero one.
-#[derive(Drop)]
+#[derive(Clone, Copy)]
 pub struct ReadSynchronization {
     pub answer: Place,
     pub parameters: SynchronizationParametersTLV,
