@@ -7,7 +7,7 @@ use mathlib.Core.Bool.{Bool, true, false, cond}
 use mathlib.Core.Logic.{◌↔◌}
 use mathlib.Core.List.{List}
 use lib.Dec.{eqb, lit<}
-use lib.ListN.{length, get_or}
+use lib.ListN.{get_or}
 use Rattle.wire.specs.declared.refusal.Refusal.TheVariants.{UnicastLength}
 use Rattle.wire.specs.Reading.{read}
 use Rattle.wire.specs.FromBytes.{ReadFromBytes}

@@ -25,7 +25,7 @@ use Rattle.data_path_fields.specs.declared.read.Extended.{Extended}
 use Rattle.data_path_fields.specs.declared.read.Body.{Body}
 use Rattle.data_path_words.specs.Words.{extended_kept, options_kept, channel_of}
 use Rattle.data_path_fields.specs.Fields.{no_country, no_channel, head, no_infra, no_address, one_address, addresses, no_word, one_word, options_and, no_unicast, unicast}
-use Rattle.data_path_fields.specs.Fields.{no_trigger_id, no_stats, stats, no_extended, extended_of, extended, body}
+use Rattle.data_path_fields.specs.Fields.{no_trigger_id, no_stats, no_extended, extended_of, extended, body}
 use Rattle.data_path_state.specs.declared.data_path_state_tlv.DataPathStateTLV.{DataPathStateTLV}
 use Rattle.data_path_state.specs.DataPath.{record_of, data_path}
 use Rattle.data_path_state.specs.Consistent.{is_zero_country, is_zero_address, is_zero_channel, is_zero_stats, channel_right, consistent}

@@ -17,7 +17,7 @@ use data_path_fields::{
 use data_path_words::DataPathFlags;
 use wire::{AWDLTLVType, Refusal, Size};
 
-#[derive(Drop)]
+#[derive(Clone, Copy)]
 pub struct DataPathStateTLV {
     pub flags: DataPathFlags,
     pub country_code: CountryCode,
@@ -34,7 +34,7 @@ pub struct DataPathStateTLV {
 }
 
 // The record and its size, or why there is none.
-#[derive(Drop)]
+#[derive(Clone, Copy)]
 pub enum ReadDataPathState {
     Read(DataPathStateTLV, usize),
     Refused(Refusal),
