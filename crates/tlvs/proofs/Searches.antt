@@ -7,10 +7,7 @@ use mathlib.Core.Bool.{Bool, true, false, cond}
 use mathlib.Core.List.{List, [], ◌∷◌, ◌++◌}
 use lib.Dec.{eqb}
 use lib.ListN.{length}
-use mathlib.Core.Logic.{inl, inr, ⊎_elim}
-use types.Run.{OneOf}
 use borrow.Author.Tests.{eq-eqb, ne_eqb}
-use denote.Enum.Declared.{tag_of}
 use Rattle.wire.specs.declared.refusal.Refusal.{Refusal}
 use Rattle.wire.specs.Reading.{Reading, Reader, read, refused}
 use Rattle.tlv_items.specs.declared.item.Item.{Item}
@@ -18,7 +15,6 @@ use Rattle.tlv_items.specs.declared.item.Step.{Step}
 use Rattle.tlv_items.specs.Items.{step_at, value_of, step_value, value_at}
 use Rattle.tlv_items.specs.Walk.{Ending, Walk, GivesItems, ends_whole, ends_cut, gives_item}
 use Rattle.tlvs.specs.Search.{Match, kept, matched, accepted, all_from, all_of, Search, found, nothing, behind_item, first_of, next_from, GivesRecords, ends_search, gives_record}
-use Rattle.tlv_items.specs.contracts.item.Step as S
 use Rattle.tlv_items.proofs.Steps.{step-stands}
 use Rattle.tlv_items.proofs.Walks.{gives-walk-at, walk-goes}
 
@@ -37,9 +33,9 @@ value-here : (s : List ℕ) (at : ℕ) {f : Step} {it : Item} {next : ℕ} {valu
     → value ≡ value_of s it
 value-here s at v p q = v ∙ ap (step_value s) (sym p ∙ q)
 
--- a step that ends the walk, by the position of its case
+-- a step that ends the walk: it is no item
 abbrev pub Last : Step → Type 0
-Last last = OneOf (1 ∷ 2 ∷ []) (tag_of S.the_type last)
+Last last = (it : Item) (next : ℕ) → last ≡ Step.Item it next → ⊥
 
 -- one item gives no record, or its own
 data One {A : Type 0} (it : Item) : List (Match A) → Type 0 where
@@ -75,7 +71,7 @@ module _ {A : Type 0} (n : ℕ) (r : Reader A) (s : List ℕ) where
 
   all-last : (at : ℕ) (last : Step) → step_at s at ≡ last → Last last → all_from n r s at ≡ []
   unfolding all_from
-  all-last at (Step.Item it next) e k = absurd (⊎_elim (λ w. omega arith) (λ w. omega arith) k)
+  all-last at (Step.Item it next) e k = absurd (k it next refl)
   all-last at Step.Whole e k = ap (λ (w : Walk). accepted n r s w.items) (walk-goes s at e)
   all-last at (Step.Cut place) e k = ap (λ (w : Walk). accepted n r s w.items) (walk-goes s at e)
 
@@ -144,8 +140,8 @@ module _ {A : Type 0} (n : ℕ) (r : Reader A) (s : List ℕ) where
 
   finds-given : {at : ℕ} {items : List Item} {ending : Ending} → GivesItems s at items ending → {a : A} {it : Item} {next : ℕ}
       → next_from n r s at ≡ found a it next → Finds n r s at a it next
-  finds-given {at} (ends_whole q) e = absurd (none_found at (all-last at Step.Whole q (inl refl)) e)
-  finds-given {at} (ends_cut {place = place} q) e = absurd (none_found at (all-last at (Step.Cut place) q (inr refl)) e)
+  finds-given {at} (ends_whole q) e = absurd (none_found at (all-last at Step.Whole q (λ it next p. cc)) e)
+  finds-given {at} (ends_cut {place = place} q) e = absurd (none_found at (all-last at (Step.Cut place) q (λ it next p. cc)) e)
   finds-given (gives_item {it = it} q g) e = here-or-behind e q (one it) refl (finds-given g)
 
   pub finds : (at : ℕ) {a : A} {it : Item} {next : ℕ} → next_from n r s at ≡ found a it next → Finds n r s at a it next

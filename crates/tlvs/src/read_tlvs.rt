@@ -9,7 +9,7 @@ use crate::values::StepWithValue;
 use crate::{search, values};
 
 // A tail and a place in it. Each method takes the two apart and leaves the work to the function over a slice and a place.
-#[derive(Drop)]
+#[derive(Clone, Copy)]
 pub struct ReadTLVs<'a> {
     pub bytes: &'a [u8],
     pub at: usize,
@@ -34,7 +34,7 @@ impl<'a> ReadTLVs<'a> {
 
     // What stands at the place, with the value of the item as that part of the tail.
     pub fn next(self) -> StepWithValue<'a>
-        ensures { (result.step ≡ step_at self.entry.bytes.now self.entry.at) × (result.value.now ≡ value_at self.entry.bytes.now self.entry.at) × (result.value.ptr ≡ part_at (value_start_at self.entry.bytes.now self.entry.at) self.entry.bytes.ptr) }
+        ensures { (result.step ≡ step_at self.entry.bytes.now self.entry.at) × (result.value.now ≡ value_at self.entry.bytes.now self.entry.at) × (result.value.ref_ptr ≡ part_at (value_start_at self.entry.bytes.now self.entry.at) self.entry.bytes.ref_ptr) }
     {
         values::step_with_value(self.bytes, self.at)
     }

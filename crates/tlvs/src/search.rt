@@ -10,14 +10,14 @@ use tlv_items::{Item, Step, step};
 use wire::Place;
 
 // The next record of a type, its item, and the place behind that item, from which a caller goes on.
-#[derive(Drop)]
+#[derive(Clone, Copy)]
 pub enum FoundDataPath {
     Found(DataPathStateTLV, Item, usize),
     // No such item.
     Nothing,
 }
 
-#[derive(Drop)]
+#[derive(Clone, Copy)]
 pub enum Found {
     At(Item, usize),
     // No such item.
@@ -26,13 +26,13 @@ pub enum Found {
 
 // An enum cannot hold an array, and these records do: the enum stands beside the record, which is the zero one where there is
 // no such item.
-#[derive(Drop)]
+#[derive(Clone, Copy)]
 pub struct FoundSynchronization {
     pub found: Found,
     pub parameters: SynchronizationParametersTLV,
 }
 
-#[derive(Drop)]
+#[derive(Clone, Copy)]
 pub struct FoundChannelSequence {
     pub found: Found,
     pub channels: ChannelSequenceTLV,
@@ -69,6 +69,7 @@ pub fn first_data_path(tail: &[u8]) -> FoundDataPath
 
 // The answer of a search that has come to its end. The reader gives the zero record where it refuses, and it refuses a value
 // of no bytes.
+#[tactic(auto, unfolding(synchronization_parameters::specs::SynchronizationReader::synchronization))]
 fn no_synchronization() -> FoundSynchronization
     ensures { result ≡ synchronization_found Search.nothing }
 {
@@ -113,6 +114,7 @@ pub fn first_synchronization(tail: &[u8]) -> FoundSynchronization
     next_synchronization(tail, 0)
 }
 
+#[tactic(auto, unfolding(channel_sequence_tlv::specs::SequenceTLVReader::channel_sequence_record))]
 fn no_channel_sequence() -> FoundChannelSequence
     ensures { result ≡ channel_sequence_found Search.nothing }
 {

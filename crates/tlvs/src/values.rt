@@ -5,7 +5,7 @@ ghost use Rattle.tlv_items.specs.Items.{step_at, value_at, value_start_at};
 use tlv_items::Step;
 
 // A step with the value of its item, since the enum cannot hold a slice.
-#[derive(Drop)]
+#[derive(Clone, Copy)]
 pub struct StepWithValue<'a> {
     pub step: Step,
     pub value: &'a [u8],
@@ -28,7 +28,7 @@ pub(crate) fn value_at<'a>(tail: &'a [u8], at: usize, step: Step) -> &'a [u8]
 
 // A step, and its item's value as that part of the tail. Without an item it is the empty part at the tail's start.
 pub fn step_with_value<'a>(tail: &'a [u8], at: usize) -> StepWithValue<'a>
-    ensures { (result.step ≡ step_at tail.now at) × (result.value.now ≡ value_at tail.now at) × (result.value.ptr ≡ part_at (value_start_at tail.now at) tail.entry.ref_ptr) }
+    ensures { (result.step ≡ step_at tail.now at) × (result.value.now ≡ value_at tail.now at) × (result.value.ref_ptr ≡ part_at (value_start_at tail.now at) tail.entry.ref_ptr) }
 {
     let step = tlv_items::step(tail, at);
     let value = value_at(tail, at, step);
