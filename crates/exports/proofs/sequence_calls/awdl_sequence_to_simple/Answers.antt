@@ -7,10 +7,10 @@ use Rattle.exports.proofs.sequence_calls.awdl_sequence_to_simple.Goals as goal
 
 pub returns-in-Made : goal.returns-in-Made
 returns-in-Made c =
-    rw (made-parts (sequence_simple c.args.sequence.now) c.sequence_to_simple.ensures c.in-Made.is)
+    rw (made-parts (sequence_simple c.args.sequence.now) c.sequence_to_simple-made.ensures c.in-Made.is)
     (record { number = refl; numbers = c.sequence_numbers.ensures })
 
 pub returns-in-Refused : goal.returns-in-Refused
 returns-in-Refused c =
-    let said = not-made-parts (sequence_simple c.args.sequence.now) c.sequence_to_simple.ensures c.in-Refused.is in
+    let said = not-made-parts (sequence_simple c.args.sequence.now) c.sequence_to_simple-made.ensures c.in-Refused.is in
     rw said.0 (record { number = c.number_of.ensures; numbers = c.sequence_numbers.ensures ∙ ap sequence_numbers said.1 })

@@ -25,7 +25,7 @@ loop-i-preserved c =
       omega arith,
       rw (
         c.wide8.ensures,
-        c.wide8-2.ensures,
+        c.wide8-in-loop-i.ensures,
         ← add_assoc at l.i 2,
         entry-step l.numbers (at + l.i) (kept_flags (get_or part l.i 0)) (get_or part (l.i + 1) 0) (kept_entries (drop (l.i + 2) part)) (omega arith),
         ← l.invariant.5,
