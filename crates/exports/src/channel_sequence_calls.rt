@@ -1,6 +1,6 @@
 ghost use Rattle.std.specs.Prelude.{◌≡◌, true, ◌++◌, ◌+◌, ◌≤◌, length, get_or, take, drop};
 ghost use Rattle.wire.specs.Said.{said_size};
-ghost use Rattle.wire.specs.Outcomes.{outcome, result};
+ghost use Rattle.wire.specs.Outcomes.{outcome, result as result_of};
 ghost use Rattle.wire.specs.Writing.{length_of, Put};
 ghost use Rattle.channel_sequence.specs.Said.{said_consistent};
 ghost use Rattle.channel_sequence_tlv.specs.SequenceTLVs.{zero_channel_sequence, head_bytes};
@@ -18,7 +18,7 @@ use channel_sequence_tlv::ChannelSequenceTLV;
 use wire::{Place, Refusal, Size};
 
 pub(crate) fn channel_sequence_numbers(c: ChannelSequenceTLV) -> [u32; 36]
-    ensures* { λ n. ⌜ n ≡ channel_sequence_numbers c ⌝ }
+    ensures { result ≡ channel_sequence_numbers c }
 {
     let sequence = c.channel_sequence;
     let bytes = sequence.bytes;
@@ -43,8 +43,8 @@ fn entries_into(
     requires to_value { to + 36 ≡ length numbers.old }
     requires at_in_bounds { at + 6 ≤ length bytes.now }
     requires at_value { get_or bytes.now at 0 ≡ 15 }
-    ensures* fact { λ r. ⌜ ToldOutcome (outcome zero_channel_sequence at (channel_sequence_record bytes.now at)) r offset.new size.new ⌝ }
-    ensures* fact_2 { λ r. ⌜ (r ≡ 0 → numbers.new ≡ take to numbers.old ++ channel_sequence_numbers (outcome zero_channel_sequence at (channel_sequence_record bytes.now at)).value) ⌝ }
+    ensures told { ToldOutcome (outcome zero_channel_sequence at (channel_sequence_record bytes.now at)) result offset.new size.new }
+    ensures laid { result ≡ 0 → numbers.new ≡ take to numbers.old ++ channel_sequence_numbers (outcome zero_channel_sequence at (channel_sequence_record bytes.now at)).value }
 {
     numbers[to] = wide8(bytes[at + 2]);
     numbers[to + 1] = wide8(bytes[at + 3]);
@@ -66,8 +66,8 @@ pub(crate) fn channel_sequence_into(
     size: &mut usize,
 ) -> u32
     requires { to + 36 ≡ length numbers.old }
-    ensures* fact { λ r. ⌜ ToldOutcome (outcome zero_channel_sequence at (channel_sequence_record bytes.now at)) r offset.new size.new ⌝ }
-    ensures* fact_2 { λ r. ⌜ (r ≡ 0 → numbers.new ≡ take to numbers.old ++ channel_sequence_numbers (outcome zero_channel_sequence at (channel_sequence_record bytes.now at)).value) ⌝ }
+    ensures told { ToldOutcome (outcome zero_channel_sequence at (channel_sequence_record bytes.now at)) result offset.new size.new }
+    ensures laid { result ≡ 0 → numbers.new ≡ take to numbers.old ++ channel_sequence_numbers (outcome zero_channel_sequence at (channel_sequence_record bytes.now at)).value }
 {
     match wire::field_at(bytes, at, 6) {
         Place::At(_) => {
@@ -86,7 +86,7 @@ pub(crate) fn channel_sequence_into(
 }
 
 fn channel_sequence_fits(numbers: &[u32; 36]) -> bool
-    ensures* { λ r. ⌜ r ≡ fits numbers.now channel_sequence_largest ⌝ }
+    ensures { result ≡ fits numbers.now channel_sequence_largest }
 {
     let all = &numbers[..];
     (numbers[0] <= 255) & ((numbers[1] <= 255) & ((numbers[2] <= 65535) & all_bytes(&all[3..])))
@@ -94,7 +94,7 @@ fn channel_sequence_fits(numbers: &[u32; 36]) -> bool
 
 fn channel_sequence_of(numbers: &[u32; 36]) -> ChannelSequenceTLV
     requires { fits numbers.now channel_sequence_largest ≡ true }
-    ensures* { λ r. ⌜ r ≡ channel_sequence_of numbers.now ⌝ }
+    ensures { result ≡ channel_sequence_of numbers.now }
 {
     ChannelSequenceTLV {
         duplicate_count: byte(numbers[0]),
@@ -108,7 +108,7 @@ fn channel_sequence_of(numbers: &[u32; 36]) -> ChannelSequenceTLV
 }
 
 fn channel_sequence_consistent(numbers: &[u32; 36]) -> Consistency
-    ensures* { λ r. ⌜ flagged (said_consistent r) ≡ channel_sequence_consistent numbers.now ⌝ }
+    ensures { flagged (said_consistent result) ≡ channel_sequence_consistent numbers.now }
 {
     if channel_sequence_fits(numbers) {
         return channel_sequence_of(numbers).consistent();
@@ -117,7 +117,7 @@ fn channel_sequence_consistent(numbers: &[u32; 36]) -> Consistency
 }
 
 fn channel_sequence_size(numbers: &[u32; 36]) -> Size
-    ensures* { λ r. ⌜ said_size r ≡ channel_sequence_size numbers.now ⌝ }
+    ensures { said_size result ≡ channel_sequence_size numbers.now }
 {
     if channel_sequence_fits(numbers) {
         return channel_sequence_of(numbers).size();
@@ -126,7 +126,7 @@ fn channel_sequence_size(numbers: &[u32; 36]) -> Size
 }
 
 fn channel_sequence_told(numbers: &[u32; 36], size: &mut usize) -> u32
-    ensures* { λ r. ⌜ ToldNumber (result 0 (length_of (channel_sequence_bytes numbers.now))) r size.new ⌝ }
+    ensures { ToldNumber (result_of 0 (length_of (channel_sequence_bytes numbers.now))) result size.new }
 {
     if channel_sequence_fits(numbers) {
         let why = entries_told(numbers, 3, size);
@@ -144,7 +144,7 @@ pub(crate) fn put_head(numbers: &[u32], from: usize, buffer: &mut [u8], at: usiz
     requires from_value { from + 36 ≡ length numbers.now }
     requires channel_sequence_largest_value { fits (drop from numbers.now) channel_sequence_largest ≡ true }
     requires at_in_bounds { at + 6 ≤ length buffer.old }
-    ensures* { λ _. ⌜ Put buffer.old at (head_bytes (channel_sequence_of (drop from numbers.now))) (at + 6) buffer.new ⌝ }
+    ensures { Put buffer.old at (head_bytes (channel_sequence_of (drop from numbers.now))) (at + 6) buffer.new }
 {
     let fill = wire::u16_bytes(word(numbers[from + 2]));
     buffer[at] = 15;
@@ -155,15 +155,14 @@ pub(crate) fn put_head(numbers: &[u32], from: usize, buffer: &mut [u8], at: usiz
     buffer[at + 5] = fill[1];
 }
 
-#[unsafe(no_mangle)]
-pub extern "C" fn awdl_channel_sequence_read(
+pub fn awdl_channel_sequence_read(
     bytes: &[u8],
     at: usize,
     offset: &mut usize,
     size: &mut usize,
     numbers: &mut [u32; 36],
 ) -> u32
-    ensures* { λ r. ⌜ ToldReading channel_sequence_numbers (outcome zero_channel_sequence at (channel_sequence_record bytes.now at)) r offset.new size.new numbers.new ⌝ }
+    ensures { ToldReading channel_sequence_numbers (outcome zero_channel_sequence at (channel_sequence_record bytes.now at)) result offset.new size.new numbers.new }
 {
     let why = channel_sequence_into(bytes, at, numbers, 0, offset, size);
     if why != 0 {
@@ -172,29 +171,26 @@ pub extern "C" fn awdl_channel_sequence_read(
     why
 }
 
-#[unsafe(no_mangle)]
-pub extern "C" fn awdl_channel_sequence_consistent(numbers: &[u32; 36], consistent: &mut u32) -> u32
-    ensures* { λ r. ⌜ ToldNumber (result 0 (channel_sequence_consistent numbers.now)) r consistent.new ⌝ }
+pub fn awdl_channel_sequence_consistent(numbers: &[u32; 36], consistent: &mut u32) -> u32
+    ensures { ToldNumber (result_of 0 (channel_sequence_consistent numbers.now)) result consistent.new }
 {
     let answer = channel_sequence_consistent(numbers);
     tell_consistent(answer, consistent)
 }
 
-#[unsafe(no_mangle)]
-pub extern "C" fn awdl_channel_sequence_size(numbers: &[u32; 36], size: &mut usize) -> u32
-    ensures* { λ r. ⌜ ToldNumber (result 0 (channel_sequence_size numbers.now)) r size.new ⌝ }
+pub fn awdl_channel_sequence_size(numbers: &[u32; 36], size: &mut usize) -> u32
+    ensures { ToldNumber (result_of 0 (channel_sequence_size numbers.now)) result size.new }
 {
     let answer = channel_sequence_size(numbers);
     tell_size(answer, size)
 }
 
-#[unsafe(no_mangle)]
-pub extern "C" fn awdl_channel_sequence_write(
+pub fn awdl_channel_sequence_write(
     numbers: &[u32; 36],
     buffer: &mut [u8],
     size: &mut usize,
 ) -> u32
-    ensures* { λ r. ⌜ ToldWriting buffer.old (channel_sequence_bytes numbers.now) r size.new buffer.new ⌝ }
+    ensures { ToldWriting buffer.old (channel_sequence_bytes numbers.now) result size.new buffer.new }
 {
     let all = &numbers[..];
     let why = channel_sequence_told(numbers, size);

@@ -1,6 +1,6 @@
 ghost use Rattle.std.specs.Prelude.{◌≡◌};
 ghost use Rattle.wire.specs.Said.{said_size};
-ghost use Rattle.wire.specs.Outcomes.{outcome, result};
+ghost use Rattle.wire.specs.Outcomes.{outcome, result as result_of};
 ghost use Rattle.wire.specs.Writing.{Wrote};
 ghost use Rattle.data_path_state.specs.DataPath.{data_path};
 ghost use Rattle.data_path_state.specs.Outcomes.{zero_data_path};
@@ -14,7 +14,7 @@ use crate::told::{number_of, tell_size};
 use wire::{Place, Refusal, Size};
 
 fn data_path_size(numbers: &[u32; 44]) -> Size
-    ensures* { λ r. ⌜ said_size r ≡ data_path_size numbers.now ⌝ }
+    ensures { said_size result ≡ data_path_size numbers.now }
 {
     if data_path_fits(numbers) {
         return data_path_of(numbers).size();
@@ -23,7 +23,7 @@ fn data_path_size(numbers: &[u32; 44]) -> Size
 }
 
 fn data_path_write(numbers: &[u32; 44], buffer: &mut [u8]) -> Size
-    ensures* { λ r. ⌜ Wrote buffer.old (data_path_bytes numbers.now) (said_size r) buffer.new ⌝ }
+    ensures { Wrote buffer.old (data_path_bytes numbers.now) (said_size result) buffer.new }
 {
     if data_path_fits(numbers) {
         return data_path_of(numbers).write(buffer);
@@ -31,14 +31,13 @@ fn data_path_write(numbers: &[u32; 44], buffer: &mut [u8]) -> Size
     Size::Refused(Refusal::Inconsistent)
 }
 
-#[unsafe(no_mangle)]
-pub extern "C" fn awdl_data_path_read(
+pub fn awdl_data_path_read(
     bytes: &[u8],
     offset: &mut usize,
     size: &mut usize,
     numbers: &mut [u32; 44],
 ) -> u32
-    ensures* { λ r. ⌜ ToldReading data_path_numbers (outcome zero_data_path 0 (data_path bytes.now 0)) r offset.new size.new numbers.new ⌝ }
+    ensures { ToldReading data_path_numbers (outcome zero_data_path 0 (data_path bytes.now 0)) result offset.new size.new numbers.new }
 {
     match data_path_into(bytes, numbers) {
         Place::At(n) => {
@@ -55,9 +54,8 @@ pub extern "C" fn awdl_data_path_read(
     }
 }
 
-#[unsafe(no_mangle)]
-pub extern "C" fn awdl_data_path_consistent(numbers: &[u32; 44], consistent: &mut u32) -> u32
-    ensures* { λ r. ⌜ ToldNumber (result 0 (data_path_consistent numbers.now)) r consistent.new ⌝ }
+pub fn awdl_data_path_consistent(numbers: &[u32; 44], consistent: &mut u32) -> u32
+    ensures { ToldNumber (result_of 0 (data_path_consistent numbers.now)) result consistent.new }
 {
     if data_path_fits(numbers) {
         *consistent = flag_number(data_path_of(numbers).consistent());
@@ -67,9 +65,8 @@ pub extern "C" fn awdl_data_path_consistent(numbers: &[u32; 44], consistent: &mu
     number_of(Refusal::Inconsistent)
 }
 
-#[unsafe(no_mangle)]
-pub extern "C" fn awdl_data_path_mend(numbers: &[u32; 44], mended: &mut [u32; 44]) -> u32
-    ensures* { λ r. ⌜ ToldRecord data_path_numbers (result zero_data_path (data_path_mended numbers.now)) r mended.new ⌝ }
+pub fn awdl_data_path_mend(numbers: &[u32; 44], mended: &mut [u32; 44]) -> u32
+    ensures { ToldRecord data_path_numbers (result_of zero_data_path (data_path_mended numbers.now)) result mended.new }
 {
     if data_path_fits(numbers) {
         *mended = data_path_numbers(data_path_of(numbers).mend());
@@ -79,21 +76,19 @@ pub extern "C" fn awdl_data_path_mend(numbers: &[u32; 44], mended: &mut [u32; 44
     number_of(Refusal::Inconsistent)
 }
 
-#[unsafe(no_mangle)]
-pub extern "C" fn awdl_data_path_size(numbers: &[u32; 44], size: &mut usize) -> u32
-    ensures* { λ r. ⌜ ToldNumber (result 0 (data_path_size numbers.now)) r size.new ⌝ }
+pub fn awdl_data_path_size(numbers: &[u32; 44], size: &mut usize) -> u32
+    ensures { ToldNumber (result_of 0 (data_path_size numbers.now)) result size.new }
 {
     let answer = data_path_size(numbers);
     tell_size(answer, size)
 }
 
-#[unsafe(no_mangle)]
-pub extern "C" fn awdl_data_path_write(
+pub fn awdl_data_path_write(
     numbers: &[u32; 44],
     buffer: &mut [u8],
     size: &mut usize,
 ) -> u32
-    ensures* { λ r. ⌜ ToldWriting buffer.old (data_path_bytes numbers.now) r size.new buffer.new ⌝ }
+    ensures { ToldWriting buffer.old (data_path_bytes numbers.now) result size.new buffer.new }
 {
     let wrote = data_path_write(numbers, buffer);
     tell_size(wrote, size)

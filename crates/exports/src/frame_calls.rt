@@ -48,8 +48,7 @@ fn frame_write(numbers: &[u32; 4], tail: &[u8], buffer: &mut [u8]) -> Size
     Size::Refused(Refusal::Inconsistent)
 }
 
-#[unsafe(no_mangle)]
-pub extern "C" fn awdl_frame_read(
+pub fn awdl_frame_read(
     bytes: &[u8],
     offset: &mut usize,
     size: &mut usize,
@@ -73,8 +72,7 @@ pub extern "C" fn awdl_frame_read(
     }
 }
 
-#[unsafe(no_mangle)]
-pub extern "C" fn awdl_frame_write(
+pub fn awdl_frame_write(
     frame: &[u32; 4],
     tail: &[u8],
     buffer: &mut [u8],
@@ -86,8 +84,7 @@ pub extern "C" fn awdl_frame_write(
     tell_size(wrote, size)
 }
 
-#[unsafe(no_mangle)]
-pub extern "C" fn awdl_tx_delta(phy_tx_time: u32, target_tx_time: u32) -> u32
+pub fn awdl_tx_delta(phy_tx_time: u32, target_tx_time: u32) -> u32
     ensures { result ≡ delta (record { 0 = phy_tx_time }) (record { 0 = target_tx_time }) }
 {
     action_frame::tx_delta(PhyTxTime(phy_tx_time), TargetTxTime(target_tx_time))

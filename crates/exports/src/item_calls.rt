@@ -19,8 +19,7 @@ fn write_item(tlv_type: u32, value: &[u8], buffer: &mut [u8]) -> Size
     Size::Refused(Refusal::Inconsistent)
 }
 
-#[unsafe(no_mangle)]
-pub extern "C" fn awdl_write_item(
+pub fn awdl_write_item(
     tlv_type: u32,
     value: &[u8],
     buffer: &mut [u8],
@@ -32,8 +31,7 @@ pub extern "C" fn awdl_write_item(
     tell_size(wrote, size)
 }
 
-#[unsafe(no_mangle)]
-pub extern "C" fn awdl_step(tail: &[u8], at: usize, step: &mut [usize; 5]) -> u32
+pub fn awdl_step(tail: &[u8], at: usize, step: &mut [usize; 5]) -> u32
     ensures { ToldStep (step_at tail.now at) result step.new }
 {
     match tlv_items::step(tail, at) {

@@ -1,5 +1,5 @@
 ghost use Rattle.std.specs.Prelude.{◌≡◌};
-ghost use Rattle.wire.specs.Outcomes.{result};
+ghost use Rattle.wire.specs.Outcomes.{result as result_of};
 ghost use Rattle.channel_judge.specs.Judging.{proposed};
 ghost use Rattle.channel_judge.specs.Said.{said_judgement, said_load};
 ghost use Rattle.channel_judge.specs.Outcomes.{judged_result};
@@ -12,7 +12,7 @@ use channel_judge::{Judgement, Load, Proposal};
 use wire::Refusal;
 
 fn judge(sequences: &[u8], permitted: &[u8], proposal: u32) -> Judgement
-    ensures* { λ r. ⌜ said_judgement r ≡ judged_in sequences.now permitted.now proposal ⌝ }
+    ensures { said_judgement result ≡ judged_in sequences.now permitted.now proposal }
 {
     if proposal <= 255 {
         return channel_judge::judge(sequences, permitted, byte(proposal));
@@ -21,7 +21,7 @@ fn judge(sequences: &[u8], permitted: &[u8], proposal: u32) -> Judgement
 }
 
 fn channel_load(sequences: &[u8], channel: u32) -> Load
-    ensures* { λ r. ⌜ said_load r ≡ load_of sequences.now channel ⌝ }
+    ensures { said_load result ≡ load_of sequences.now channel }
 {
     if channel <= 255 {
         return channel_judge::channel_load(sequences, byte(channel));
@@ -29,15 +29,14 @@ fn channel_load(sequences: &[u8], channel: u32) -> Load
     Load::Refused(Refusal::Inconsistent)
 }
 
-#[unsafe(no_mangle)]
-pub extern "C" fn awdl_judge(
+pub fn awdl_judge(
     sequences: &[u8],
     permitted: &[u8],
     proposal: u32,
     offset: &mut usize,
     own: &mut u32,
 ) -> u32
-    ensures* { λ r. ⌜ ToldPlaced (judged_result (judged_in sequences.now permitted.now proposal)) r offset.new own.new ⌝ }
+    ensures { ToldPlaced (judged_result (judged_in sequences.now permitted.now proposal)) result offset.new own.new }
 {
     match judge(sequences, permitted, proposal) {
         Judgement::Accepted => {
@@ -53,14 +52,13 @@ pub extern "C" fn awdl_judge(
     }
 }
 
-#[unsafe(no_mangle)]
-pub extern "C" fn awdl_own_proposal(
+pub fn awdl_own_proposal(
     sequences: &[u8],
     permitted: &[u8],
     offset: &mut usize,
     channel: &mut u32,
 ) -> u32
-    ensures* { λ r. ⌜ ToldPlaced (result 0 (proposed sequences.now permitted.now)) r offset.new channel.new ⌝ }
+    ensures { ToldPlaced (result_of 0 (proposed sequences.now permitted.now)) result offset.new channel.new }
 {
     match channel_judge::own_proposal(sequences, permitted) {
         Proposal::Channel(own) => {
@@ -76,14 +74,13 @@ pub extern "C" fn awdl_own_proposal(
     }
 }
 
-#[unsafe(no_mangle)]
-pub extern "C" fn awdl_channel_load(
+pub fn awdl_channel_load(
     sequences: &[u8],
     channel: u32,
     offset: &mut usize,
     load: &mut u32,
 ) -> u32
-    ensures* { λ r. ⌜ ToldPlaced (result 0 (load_of sequences.now channel)) r offset.new load.new ⌝ }
+    ensures { ToldPlaced (result_of 0 (load_of sequences.now channel)) result offset.new load.new }
 {
     match channel_load(sequences, channel) {
         Load::Entries(n) => {

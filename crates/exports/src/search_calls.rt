@@ -39,8 +39,7 @@ fn item_numbers(item: Item, next: usize) -> [usize; 4]
 }
 
 // The search of `tlvs`, with each value read straight into the numbers.
-#[unsafe(no_mangle)]
-pub extern "C" fn awdl_next_data_path(
+pub fn awdl_next_data_path(
     tail: &[u8],
     at: usize,
     item: &mut [usize; 4],
@@ -68,8 +67,7 @@ pub extern "C" fn awdl_next_data_path(
     }
 }
 
-#[unsafe(no_mangle)]
-pub extern "C" fn awdl_first_data_path(
+pub fn awdl_first_data_path(
     tail: &[u8],
     item: &mut [usize; 4],
     numbers: &mut [u32; 44],
@@ -79,8 +77,7 @@ pub extern "C" fn awdl_first_data_path(
     awdl_next_data_path(tail, 0, item, numbers)
 }
 
-#[unsafe(no_mangle)]
-pub extern "C" fn awdl_next_synchronization(
+pub fn awdl_next_synchronization(
     tail: &[u8],
     at: usize,
     item: &mut [usize; 4],
@@ -94,8 +91,7 @@ pub extern "C" fn awdl_next_synchronization(
     tell_found(found, item)
 }
 
-#[unsafe(no_mangle)]
-pub extern "C" fn awdl_first_synchronization(
+pub fn awdl_first_synchronization(
     tail: &[u8],
     item: &mut [usize; 4],
     numbers: &mut [u32; 60],
@@ -105,8 +101,7 @@ pub extern "C" fn awdl_first_synchronization(
     awdl_next_synchronization(tail, 0, item, numbers)
 }
 
-#[unsafe(no_mangle)]
-pub extern "C" fn awdl_next_channel_sequence(
+pub fn awdl_next_channel_sequence(
     tail: &[u8],
     at: usize,
     item: &mut [usize; 4],
@@ -120,8 +115,7 @@ pub extern "C" fn awdl_next_channel_sequence(
     tell_found(found, item)
 }
 
-#[unsafe(no_mangle)]
-pub extern "C" fn awdl_first_channel_sequence(
+pub fn awdl_first_channel_sequence(
     tail: &[u8],
     item: &mut [usize; 4],
     numbers: &mut [u32; 36],

@@ -1,6 +1,6 @@
 ghost use Rattle.std.specs.Prelude.{◌≡◌, true, ◌++◌, ◌+◌, ◌*◌, length, take, drop};
 ghost use Rattle.wire.specs.Said.{said_size};
-ghost use Rattle.wire.specs.Outcomes.{outcome, result};
+ghost use Rattle.wire.specs.Outcomes.{outcome, result as result_of};
 ghost use Rattle.wire.specs.Writing.{length_of};
 ghost use Rattle.channel.specs.Channels.{entry_size};
 ghost use Rattle.channel.specs.Said.{said_corrected};
@@ -20,7 +20,7 @@ use channel_sequence::{ChannelSequence, Consistency, Entry, MadeSequence, Making
 use wire::{Place, Refusal, Size};
 
 fn sequence_numbers(q: ChannelSequence) -> [u32; 33]
-    ensures* { λ n. ⌜ n ≡ sequence_numbers q ⌝ }
+    ensures { result ≡ sequence_numbers q }
 {
     let bytes = q.bytes;
     let mut numbers = [0u32; 33];
@@ -33,7 +33,7 @@ fn sequence_numbers(q: ChannelSequence) -> [u32; 33]
 fn put_half(numbers: &mut [u32], at: usize, part: &[u8])
     requires part_len { length part.now ≡ 16 }
     requires at_value { at + 32 ≡ length numbers.old }
-    ensures* { λ _. ⌜ numbers.new ≡ take at numbers.old ++ padded part.now ⌝ }
+    ensures { numbers.new ≡ take at numbers.old ++ padded part.now }
 {
     put_bytes(numbers, at, part);
     put_bytes(numbers, at + 16, &[0; 16]);
@@ -43,7 +43,7 @@ fn put_half(numbers: &mut [u32], at: usize, part: &[u8])
 fn put_kept(numbers: &mut [u32], at: usize, part: &[u8])
     requires part_len { length part.now ≡ 32 }
     requires at_value { at + 32 ≡ length numbers.old }
-    ensures* { λ _. ⌜ numbers.new ≡ take at numbers.old ++ kept_entries part.now ⌝ }
+    ensures { numbers.new ≡ take at numbers.old ++ kept_entries part.now }
 {
     let mut i = 0;
     while i < 32 {
@@ -57,7 +57,7 @@ fn put_kept(numbers: &mut [u32], at: usize, part: &[u8])
 fn put_entries(known: ChannelEncoding, numbers: &mut [u32], at: usize, part: &[u8])
     requires part_len { length part.now ≡ 16 * entry_size known }
     requires at_value { at + 32 ≡ length numbers.old }
-    ensures* { λ _. ⌜ numbers.new ≡ take at numbers.old ++ padded (kept_bytes known part.now) ⌝ }
+    ensures { numbers.new ≡ take at numbers.old ++ padded (kept_bytes known part.now) }
 {
     match known {
         ChannelEncoding::Simple => put_half(numbers, at, part),
@@ -77,8 +77,8 @@ pub(crate) fn sequence_into(
     size: &mut usize,
 ) -> u32
     requires { to + 33 ≡ length numbers.old }
-    ensures* fact { λ r. ⌜ ToldOutcome (outcome zero_sequence at (sequence encoding bytes.now at)) r offset.new size.new ⌝ }
-    ensures* fact_2 { λ r. ⌜ (r ≡ 0 → numbers.new ≡ take to numbers.old ++ sequence_numbers (outcome zero_sequence at (sequence encoding bytes.now at)).value) ⌝ }
+    ensures told { ToldOutcome (outcome zero_sequence at (sequence encoding bytes.now at)) result offset.new size.new }
+    ensures laid { result ≡ 0 → numbers.new ≡ take to numbers.old ++ sequence_numbers (outcome zero_sequence at (sequence encoding bytes.now at)).value }
 {
     match ChannelEncoding::from_bits(encoding) {
         FoundEncoding::Known(known) => match wire::field_at(bytes, at, 16 * known.entry_size()) {
@@ -96,14 +96,14 @@ pub(crate) fn sequence_into(
 }
 
 fn sequence_fits(numbers: &[u32; 33]) -> bool
-    ensures* { λ r. ⌜ r ≡ fits numbers.now (octets 33) ⌝ }
+    ensures { result ≡ fits numbers.now (octets 33) }
 {
     all_bytes(numbers)
 }
 
 fn sequence_of(numbers: &[u32; 33]) -> ChannelSequence
     requires { fits numbers.now (octets 33) ≡ true }
-    ensures* { λ r. ⌜ r ≡ sequence_of numbers.now ⌝ }
+    ensures { result ≡ sequence_of numbers.now }
 {
     ChannelSequence {
         encoding: byte(numbers[0]),
@@ -112,7 +112,7 @@ fn sequence_of(numbers: &[u32; 33]) -> ChannelSequence
 }
 
 fn sequence_consistent(numbers: &[u32; 33]) -> Consistency
-    ensures* { λ r. ⌜ flagged (said_consistent r) ≡ sequence_consistent numbers.now ⌝ }
+    ensures { flagged (said_consistent result) ≡ sequence_consistent numbers.now }
 {
     if sequence_fits(numbers) {
         return sequence_of(numbers).consistent();
@@ -121,7 +121,7 @@ fn sequence_consistent(numbers: &[u32; 33]) -> Consistency
 }
 
 fn sequence_size(numbers: &[u32; 33]) -> Size
-    ensures* { λ r. ⌜ said_size r ≡ sequence_size numbers.now ⌝ }
+    ensures { said_size result ≡ sequence_size numbers.now }
 {
     if sequence_fits(numbers) {
         return sequence_of(numbers).size();
@@ -131,7 +131,7 @@ fn sequence_size(numbers: &[u32; 33]) -> Size
 
 // Whether a simple sequence leaves its last sixteen bytes 0. Every number is looked at.
 fn no_more(numbers: &[u32]) -> bool
-    ensures* { λ r. ⌜ r ≡ all_zero numbers.now ⌝ }
+    ensures { result ≡ all_zero numbers.now }
 {
     let mut none = true;
     let mut i = 0;
@@ -145,7 +145,7 @@ fn no_more(numbers: &[u32]) -> bool
 // How many bytes are written of the sequence that the last 33 of some numbers are.
 pub(crate) fn entries_told(numbers: &[u32], at: usize, size: &mut usize) -> u32
     requires { at + 33 ≡ length numbers.now }
-    ensures* { λ r. ⌜ ToldNumber (result 0 (length_of (bytes_of (sequence_of (drop at numbers.now))))) r size.new ⌝ }
+    ensures { ToldNumber (result_of 0 (length_of (bytes_of (sequence_of (drop at numbers.now))))) result size.new }
 {
     let encoding = numbers[at];
     if encoding == 3 {
@@ -167,7 +167,7 @@ pub(crate) fn entries_told(numbers: &[u32], at: usize, size: &mut usize) -> u32
 }
 
 fn sequence_told(numbers: &[u32; 33], size: &mut usize) -> u32
-    ensures* { λ r. ⌜ ToldNumber (result 0 (length_of (sequence_bytes numbers.now))) r size.new ⌝ }
+    ensures { ToldNumber (result_of 0 (length_of (sequence_bytes numbers.now))) result size.new }
 {
     if sequence_fits(numbers) {
         return entries_told(numbers, 0, size);
@@ -177,7 +177,7 @@ fn sequence_told(numbers: &[u32; 33], size: &mut usize) -> u32
 }
 
 fn sequence_entry(numbers: &[u32; 33], entry: usize) -> Entry
-    ensures* { λ r. ⌜ said_entry r ≡ sequence_entry numbers.now entry ⌝ }
+    ensures { said_entry result ≡ sequence_entry numbers.now entry }
 {
     if sequence_fits(numbers) {
         return sequence_of(numbers).entry(entry);
@@ -186,7 +186,7 @@ fn sequence_entry(numbers: &[u32; 33], entry: usize) -> Entry
 }
 
 fn sequence_to_simple(numbers: &[u32; 33]) -> MadeSequence
-    ensures* { λ r. ⌜ r ≡ sequence_made (sequence_simple numbers.now) ⌝ }
+    ensures { result ≡ sequence_made (sequence_simple numbers.now) }
 {
     if sequence_fits(numbers) {
         return sequence_of(numbers).to_simple();
@@ -202,7 +202,7 @@ fn sequence_to_simple(numbers: &[u32; 33]) -> MadeSequence
 
 fn channel_of(numbers: &[u32; 3]) -> Channel
     requires { fits numbers.now (octets 3) ≡ true }
-    ensures* { λ r. ⌜ r ≡ channel_of numbers.now ⌝ }
+    ensures { result ≡ channel_of numbers.now }
 {
     Channel {
         encoding: byte(numbers[0]),
@@ -212,7 +212,7 @@ fn channel_of(numbers: &[u32; 3]) -> Channel
 }
 
 fn corrected(numbers: &[u32; 3]) -> Corrected
-    ensures* { λ r. ⌜ said_corrected r ≡ corrected_of numbers.now ⌝ }
+    ensures { said_corrected result ≡ corrected_of numbers.now }
 {
     if all_fit(numbers, &[255; 3]) {
         return channel_of(numbers).channel();
@@ -220,8 +220,7 @@ fn corrected(numbers: &[u32; 3]) -> Corrected
     Corrected::Refused(Refusal::Inconsistent)
 }
 
-#[unsafe(no_mangle)]
-pub extern "C" fn awdl_sequence_read(
+pub fn awdl_sequence_read(
     bytes: &[u8],
     at: usize,
     encoding: u32,
@@ -229,7 +228,7 @@ pub extern "C" fn awdl_sequence_read(
     size: &mut usize,
     sequence: &mut [u32; 33],
 ) -> u32
-    ensures* { λ r. ⌜ ToldReading sequence_numbers (outcome zero_sequence at (sequence_read_in encoding bytes.now at)) r offset.new size.new sequence.new ⌝ }
+    ensures { ToldReading sequence_numbers (outcome zero_sequence at (sequence_read_in encoding bytes.now at)) result offset.new size.new sequence.new }
 {
     if encoding <= 255 {
         let why = sequence_into(bytes, at, byte(encoding), sequence, 0, offset, size);
@@ -242,29 +241,26 @@ pub extern "C" fn awdl_sequence_read(
     tell_refused(Refusal::Inconsistent, offset, size)
 }
 
-#[unsafe(no_mangle)]
-pub extern "C" fn awdl_sequence_consistent(sequence: &[u32; 33], consistent: &mut u32) -> u32
-    ensures* { λ r. ⌜ ToldNumber (result 0 (sequence_consistent sequence.now)) r consistent.new ⌝ }
+pub fn awdl_sequence_consistent(sequence: &[u32; 33], consistent: &mut u32) -> u32
+    ensures { ToldNumber (result_of 0 (sequence_consistent sequence.now)) result consistent.new }
 {
     let answer = sequence_consistent(sequence);
     tell_consistent(answer, consistent)
 }
 
-#[unsafe(no_mangle)]
-pub extern "C" fn awdl_sequence_size(sequence: &[u32; 33], size: &mut usize) -> u32
-    ensures* { λ r. ⌜ ToldNumber (result 0 (sequence_size sequence.now)) r size.new ⌝ }
+pub fn awdl_sequence_size(sequence: &[u32; 33], size: &mut usize) -> u32
+    ensures { ToldNumber (result_of 0 (sequence_size sequence.now)) result size.new }
 {
     let answer = sequence_size(sequence);
     tell_size(answer, size)
 }
 
-#[unsafe(no_mangle)]
-pub extern "C" fn awdl_sequence_write(
+pub fn awdl_sequence_write(
     sequence: &[u32; 33],
     buffer: &mut [u8],
     size: &mut usize,
 ) -> u32
-    ensures* { λ r. ⌜ ToldWriting buffer.old (sequence_bytes sequence.now) r size.new buffer.new ⌝ }
+    ensures { ToldWriting buffer.old (sequence_bytes sequence.now) result size.new buffer.new }
 {
     let all = &sequence[..];
     let why = sequence_told(sequence, size);
@@ -280,14 +276,13 @@ pub extern "C" fn awdl_sequence_write(
     0
 }
 
-#[unsafe(no_mangle)]
-pub extern "C" fn awdl_sequence_entry(
+pub fn awdl_sequence_entry(
     sequence: &[u32; 33],
     entry: usize,
     found: &mut u32,
     channel: &mut [u32; 3],
 ) -> u32
-    ensures* { λ r. ⌜ ToldHop (result nothing (sequence_entry sequence.now entry)) r found.new channel.new ⌝ }
+    ensures { ToldHop (result_of nothing (sequence_entry sequence.now entry)) result found.new channel.new }
 {
     match sequence_entry(sequence, entry) {
         Entry::Channel(c) => {
@@ -308,9 +303,8 @@ pub extern "C" fn awdl_sequence_entry(
     }
 }
 
-#[unsafe(no_mangle)]
-pub extern "C" fn awdl_sequence_to_simple(sequence: &[u32; 33], simple: &mut [u32; 33]) -> u32
-    ensures* { λ r. ⌜ ToldRecord sequence_numbers (result zero_sequence (sequence_simple sequence.now)) r simple.new ⌝ }
+pub fn awdl_sequence_to_simple(sequence: &[u32; 33], simple: &mut [u32; 33]) -> u32
+    ensures { ToldRecord sequence_numbers (result_of zero_sequence (sequence_simple sequence.now)) result simple.new }
 {
     let made = sequence_to_simple(sequence);
     let answer = made.answer;
@@ -321,9 +315,8 @@ pub extern "C" fn awdl_sequence_to_simple(sequence: &[u32; 33], simple: &mut [u3
     }
 }
 
-#[unsafe(no_mangle)]
-pub extern "C" fn awdl_channel(channel: &[u32; 3], answer: &mut u32) -> u32
-    ensures* { λ r. ⌜ ToldNumber (result 0 (corrected_of channel.now)) r answer.new ⌝ }
+pub fn awdl_channel(channel: &[u32; 3], answer: &mut u32) -> u32
+    ensures { ToldNumber (result_of 0 (corrected_of channel.now)) result answer.new }
 {
     match corrected(channel) {
         Corrected::Channel(c) => {

@@ -1,7 +1,7 @@
 ghost use Rattle.std.specs.Prelude.{◌≡◌, true, ◌++◌, ℕ, ◌+◌, ◌*◌, ◌≤◌, length, get_or, take, drop};
 ghost use Rattle.wire.specs.Reading.{read};
 ghost use Rattle.wire.specs.Said.{said_size};
-ghost use Rattle.wire.specs.Outcomes.{outcome, result};
+ghost use Rattle.wire.specs.Outcomes.{outcome, result as result_of};
 ghost use Rattle.wire.specs.Writing.{length_of, Put};
 ghost use Rattle.channel_sequence.specs.Said.{said_consistent};
 ghost use Rattle.synchronization_parameters.specs.declared.synchronization_parameters_tlv.SynchronizationParametersTLV as Parameters;
@@ -24,7 +24,7 @@ use synchronization_parameters::SynchronizationParametersTLV;
 use wire::{Refusal, Size};
 
 pub(crate) fn synchronization_numbers(p: SynchronizationParametersTLV) -> [u32; 60]
-    ensures* { λ n. ⌜ n ≡ synchronization_numbers p ⌝ }
+    ensures { result ≡ synchronization_numbers p }
 {
     let address = p.master_address;
     let channels = p.channel_sequence;
@@ -66,7 +66,7 @@ pub(crate) fn synchronization_numbers(p: SynchronizationParametersTLV) -> [u32; 
 // The number at a place of a value that has its two bytes.
 fn word_at(s: &[u8], at: usize) -> u32
     requires { at + 2 ≤ length s.now }
-    ensures* { λ r. ⌜ r ≡ get_or s.now at 0 + 256 * get_or s.now (at + 1) 0 ⌝ }
+    ensures { result ≡ get_or s.now at 0 + 256 * get_or s.now (at + 1) 0 }
 {
     wide16(wire::u16_of(s[at], s[at + 1]))
 }
@@ -75,7 +75,7 @@ fn word_at(s: &[u8], at: usize) -> u32
 fn put_fixed(s: &[u8], numbers: &mut [u32])
     requires in_bounds { 33 ≤ length s.now }
     requires in_bounds_2 { 24 ≤ length numbers.old }
-    ensures* { λ _. ⌜ ((p : Parameters.SynchronizationParametersTLV) (next : ℕ) → synchronization s.now 0 ≡ read p next → numbers.new ≡ take 24 (synchronization_numbers p) ++ drop 24 numbers.old) ⌝ }
+    ensures { (p : Parameters.SynchronizationParametersTLV) (next : ℕ) → synchronization s.now 0 ≡ read p next → numbers.new ≡ take 24 (synchronization_numbers p) ++ drop 24 numbers.old }
 {
     numbers[0] = wide8(s[0]);
     numbers[1] = word_at(s, 1);
@@ -113,8 +113,8 @@ fn synchronization_into(
     offset: &mut usize,
     size: &mut usize,
 ) -> u32
-    ensures* fact { λ r. ⌜ ToldOutcome (outcome zero_synchronization 0 (synchronization s.now 0)) r offset.new size.new ⌝ }
-    ensures* fact_2 { λ r. ⌜ (r ≡ 0 → numbers.new ≡ synchronization_numbers (outcome zero_synchronization 0 (synchronization s.now 0)).value) ⌝ }
+    ensures told { ToldOutcome (outcome zero_synchronization 0 (synchronization s.now 0)) result offset.new size.new }
+    ensures laid { result ≡ 0 → numbers.new ≡ synchronization_numbers (outcome zero_synchronization 0 (synchronization s.now 0)).value }
 {
     // Only where the fixed part is not all there, the field that is short is looked for.
     if s.len() < 33 {
@@ -141,7 +141,7 @@ const LARGEST: [u32; 60] = [
 ];
 
 fn synchronization_fits(numbers: &[u32; 60]) -> bool
-    ensures* { λ r. ⌜ r ≡ fits numbers.now synchronization_largest ⌝ }
+    ensures { result ≡ fits numbers.now synchronization_largest }
 {
     let largest = LARGEST;
     all_fit(numbers, &largest)
@@ -149,7 +149,7 @@ fn synchronization_fits(numbers: &[u32; 60]) -> bool
 
 fn synchronization_of(numbers: &[u32; 60]) -> SynchronizationParametersTLV
     requires { fits numbers.now synchronization_largest ≡ true }
-    ensures* { λ r. ⌜ r ≡ synchronization_of numbers.now ⌝ }
+    ensures { result ≡ synchronization_of numbers.now }
 {
     SynchronizationParametersTLV {
         next_channel: byte(numbers[0]),
@@ -184,7 +184,7 @@ fn synchronization_of(numbers: &[u32; 60]) -> SynchronizationParametersTLV
 }
 
 fn synchronization_consistent(numbers: &[u32; 60]) -> Consistency
-    ensures* { λ r. ⌜ flagged (said_consistent r) ≡ synchronization_consistent numbers.now ⌝ }
+    ensures { flagged (said_consistent result) ≡ synchronization_consistent numbers.now }
 {
     if synchronization_fits(numbers) {
         return synchronization_of(numbers).consistent();
@@ -193,7 +193,7 @@ fn synchronization_consistent(numbers: &[u32; 60]) -> Consistency
 }
 
 fn synchronization_size(numbers: &[u32; 60]) -> Size
-    ensures* { λ r. ⌜ said_size r ≡ synchronization_size numbers.now ⌝ }
+    ensures { said_size result ≡ synchronization_size numbers.now }
 {
     if synchronization_fits(numbers) {
         return synchronization_of(numbers).size();
@@ -202,7 +202,7 @@ fn synchronization_size(numbers: &[u32; 60]) -> Size
 }
 
 fn synchronization_told(numbers: &[u32; 60], size: &mut usize) -> u32
-    ensures* { λ r. ⌜ ToldNumber (result 0 (length_of (synchronization_bytes numbers.now))) r size.new ⌝ }
+    ensures { ToldNumber (result_of 0 (length_of (synchronization_bytes numbers.now))) result size.new }
 {
     if synchronization_fits(numbers) {
         let why = entries_told(numbers, 27, size);
@@ -219,7 +219,7 @@ fn synchronization_told(numbers: &[u32; 60], size: &mut usize) -> u32
 fn put_front(numbers: &[u32; 60], buffer: &mut [u8])
     requires in_bounds { 17 ≤ length buffer.old }
     requires synchronization_largest_value { fits numbers.now synchronization_largest ≡ true }
-    ensures* { λ _. ⌜ Put buffer.old 0 (take 17 (fixed_bytes (synchronization_of numbers.now))) 17 buffer.new ⌝ }
+    ensures { Put buffer.old 0 (take 17 (fixed_bytes (synchronization_of numbers.now))) 17 buffer.new }
 {
     let tx_counter = wire::u16_bytes(word(numbers[1]));
     let aw_period = wire::u16_bytes(word(numbers[4]));
@@ -250,7 +250,7 @@ fn put_front(numbers: &[u32; 60], buffer: &mut [u8])
 fn put_rest(numbers: &[u32; 60], buffer: &mut [u8])
     requires in_bounds { 33 ≤ length buffer.old }
     requires synchronization_largest_value { fits numbers.now synchronization_largest ≡ true }
-    ensures* { λ _. ⌜ Put buffer.old 17 (drop 17 (fixed_bytes (synchronization_of numbers.now))) 33 buffer.new ⌝ }
+    ensures { Put buffer.old 17 (drop 17 (fixed_bytes (synchronization_of numbers.now))) 33 buffer.new }
 {
     let aw_seq_number = wire::u16_bytes(word(numbers[22]));
     let ap_beacon_alignment_delta = wire::u16_bytes(word(numbers[23]));
@@ -272,14 +272,13 @@ fn put_rest(numbers: &[u32; 60], buffer: &mut [u8])
     buffer[32] = ap_beacon_alignment_delta[1];
 }
 
-#[unsafe(no_mangle)]
-pub extern "C" fn awdl_synchronization_read(
+pub fn awdl_synchronization_read(
     bytes: &[u8],
     offset: &mut usize,
     size: &mut usize,
     numbers: &mut [u32; 60],
 ) -> u32
-    ensures* { λ r. ⌜ ToldReading synchronization_numbers (outcome zero_synchronization 0 (synchronization bytes.now 0)) r offset.new size.new numbers.new ⌝ }
+    ensures { ToldReading synchronization_numbers (outcome zero_synchronization 0 (synchronization bytes.now 0)) result offset.new size.new numbers.new }
 {
     let why = synchronization_into(bytes, numbers, offset, size);
     if why != 0 {
@@ -288,29 +287,26 @@ pub extern "C" fn awdl_synchronization_read(
     why
 }
 
-#[unsafe(no_mangle)]
-pub extern "C" fn awdl_synchronization_consistent(numbers: &[u32; 60], consistent: &mut u32) -> u32
-    ensures* { λ r. ⌜ ToldNumber (result 0 (synchronization_consistent numbers.now)) r consistent.new ⌝ }
+pub fn awdl_synchronization_consistent(numbers: &[u32; 60], consistent: &mut u32) -> u32
+    ensures { ToldNumber (result_of 0 (synchronization_consistent numbers.now)) result consistent.new }
 {
     let answer = synchronization_consistent(numbers);
     tell_consistent(answer, consistent)
 }
 
-#[unsafe(no_mangle)]
-pub extern "C" fn awdl_synchronization_size(numbers: &[u32; 60], size: &mut usize) -> u32
-    ensures* { λ r. ⌜ ToldNumber (result 0 (synchronization_size numbers.now)) r size.new ⌝ }
+pub fn awdl_synchronization_size(numbers: &[u32; 60], size: &mut usize) -> u32
+    ensures { ToldNumber (result_of 0 (synchronization_size numbers.now)) result size.new }
 {
     let answer = synchronization_size(numbers);
     tell_size(answer, size)
 }
 
-#[unsafe(no_mangle)]
-pub extern "C" fn awdl_synchronization_write(
+pub fn awdl_synchronization_write(
     numbers: &[u32; 60],
     buffer: &mut [u8],
     size: &mut usize,
 ) -> u32
-    ensures* { λ r. ⌜ ToldWriting buffer.old (synchronization_bytes numbers.now) r size.new buffer.new ⌝ }
+    ensures { ToldWriting buffer.old (synchronization_bytes numbers.now) result size.new buffer.new }
 {
     let all = &numbers[..];
     let why = synchronization_told(numbers, size);

@@ -3,7 +3,7 @@ ghost use Rattle.std.specs.Prelude.{◌≡◌};
 ghost use Rattle.wire.specs.Reading.{refused};
 ghost use Rattle.wire.specs.Refusals.{number_of};
 ghost use Rattle.wire.specs.Said.{said_size};
-ghost use Rattle.wire.specs.Outcomes.{result, outcome};
+ghost use Rattle.wire.specs.Outcomes.{result as result_of, outcome};
 ghost use Rattle.channel_sequence.specs.Said.{said_consistent};
 ghost use Rattle.exports.specs.Held.{flagged};
 ghost use Rattle.exports.specs.Told.{ToldOutcome, ToldNumber};
@@ -12,13 +12,13 @@ use channel_sequence::Consistency;
 use wire::{Refusal, Size};
 
 pub(crate) fn number_of(why: Refusal) -> u32
-    ensures* { λ r. ⌜ r ≡ number_of why ⌝ }
+    ensures { result ≡ number_of why }
 {
     crate::numbers::wide8(why.number())
 }
 
 pub(crate) fn tell_size(answer: Size, size: &mut usize) -> u32
-    ensures* { λ r. ⌜ ToldNumber (result 0 (said_size answer)) r size.new ⌝ }
+    ensures { ToldNumber (result_of 0 (said_size answer)) result size.new }
 {
     match answer {
         Size::Bytes(n) => {
@@ -33,7 +33,7 @@ pub(crate) fn tell_size(answer: Size, size: &mut usize) -> u32
 }
 
 pub(crate) fn tell_consistent(answer: Consistency, consistent: &mut u32) -> u32
-    ensures* { λ r. ⌜ ToldNumber (result 0 (flagged (said_consistent answer))) r consistent.new ⌝ }
+    ensures { ToldNumber (result_of 0 (flagged (said_consistent answer))) result consistent.new }
 {
     match answer {
         Consistency::Yes => {
@@ -53,7 +53,7 @@ pub(crate) fn tell_consistent(answer: Consistency, consistent: &mut u32) -> u32
 
 // A reader that refuses has no size.
 pub(crate) fn tell_refused(why: Refusal, offset: &mut usize, size: &mut usize) -> u32
-    ensures* { λ r. ⌜ ToldOutcome (outcome (tt {0}) 0 (refused why)) r offset.new size.new ⌝ }
+    ensures { ToldOutcome (outcome (tt {0}) 0 (refused why)) result offset.new size.new }
 {
     *offset = why.offset();
     *size = 0;
