@@ -80,11 +80,14 @@ module _ (load_of : ℕ → ℕ) where
       skipped least false false e f = rw (e, f)
 
       go : (t : Bool) → ltb (load_of x) (load_of b) ≡ t → own load_of (b ∷ x ∷ rest) ≡ own load_of (smaller b x ∷ rest)
-      go true e = rw e (behind (ltb-true (load_of x) (load_of b) e))
+      go true e =
+          let moves : smaller b x ≡ x = rw e in
+          behind (ltb-true (load_of x) (load_of b) e) ∙ ap (λ (n : ℕ). own load_of (n ∷ rest)) (sym moves)
       go false e =
           let least = ltb-false (load_of x) (load_of b) e in
           let same = same_first (none_below load_of (b ∷ x ∷ rest)) (none_below load_of (b ∷ rest)) (kept b x rest least) (b ∷ x ∷ rest) in
-          rw e (same ∙ skipped least (none_below load_of (b ∷ rest) b) (none_below load_of (b ∷ rest) x) refl refl)
+          let stays : smaller b x ≡ b = rw e in
+          same ∙ skipped least (none_below load_of (b ∷ rest) b) (none_below load_of (b ∷ rest) x) refl refl ∙ ap (λ (n : ℕ). own load_of (n ∷ rest)) (sym stays)
 
   own-least : (b : ℕ) (rest : List ℕ) → own load_of (b ∷ rest) ≡ least_from b rest
   own-least b [] = rw (le-leb (load_of b) (load_of b) (le_refl (load_of b)))

@@ -38,6 +38,9 @@ module _ (s : List ℕ) (channels : ℕ) where
       lent-loads listed =
           rw (eq-eqb (length s % 33) 0 whole, many-sequences (length s / 33) s, le-leb (length s / 33) 64 few, le-leb channels 16 some, listed)
 
+-- what settles the answer of the code
+pub ruleset of_loads = (lent-many, lent-unlisted, lent-loads)
+
 -- a call goes on with the loads, or with why there are none
 regrouped : {A B C : Type 0} (m : Answer A) (f : A → Answer B) (g : B → Answer C) → ((m >>= f) >>= g) ≡ (m >>= (λ a. f a >>= g))
 regrouped (answer a) f g = refl

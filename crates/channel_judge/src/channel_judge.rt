@@ -5,20 +5,20 @@ ghost use Rattle.channel_judge.specs.Said.{said_judgement, said_proposal, said_l
 use crate::loads::{Counting, count_loads, counters};
 use wire::Refusal;
 
-#[derive(Drop)]
+#[derive(Clone, Copy)]
 pub enum Judgement {
     Accepted,
     Refused(Refusal),
 }
 
-#[derive(Drop)]
+#[derive(Clone, Copy)]
 pub enum Proposal {
     Channel(u8),
     Refused(Refusal),
 }
 
 // How many entries stand for a channel.
-#[derive(Drop)]
+#[derive(Clone, Copy)]
 pub enum Load {
     Entries(u16),
     Refused(Refusal),

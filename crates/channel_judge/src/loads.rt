@@ -7,7 +7,7 @@ use channel::{ChannelEncoding, FoundEncoding};
 use wire::Refusal;
 
 // Whether the counters hold the loads, or why they do not.
-#[derive(Drop)]
+#[derive(Clone, Copy)]
 pub(crate) enum Counting {
     Counted,
     Refused(Refusal),
@@ -77,6 +77,7 @@ fn count_all(counts: &mut [u16], sequences: &[u8]) -> bool
 }
 
 // The load of every channel: one pass over what is lent.
+#[tactic(auto, using(crate::proofs::Loaded::of_loads))]
 pub(crate) fn count_loads(sequences: &[u8], channels: usize, counts: &mut [u16]) -> Counting
     requires counts_len { length counts.old ≡ 256 }
     requires at_most { AtMost 0 counts.old }

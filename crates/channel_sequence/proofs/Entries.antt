@@ -9,7 +9,7 @@ use mathlib.Core.Bool.{Bool, true, false, ◌&&◌, and-true}
 use mathlib.Core.List.{List, [], ◌∷◌, ◌++◌, append_assoc, append-nil}
 use lib.Dec.{eqb}
 use lib.ListN.{length, get_or, take, drop, set, replicate, length-set, take-append-drop}
-use borrow.Author.Tests.{eqb-true}
+use borrow.Author.Tests.{eqb-true, le-leb, lt-leb}
 use lib.Seq.{get_or-drop, drop-cons, drop-drop, take-suc-set, length-take-le}
 use Rattle.wire.specs.declared.refusal.Refusal.TheVariants.{LegacySequence}
 use Rattle.wire.specs.Answer.{Answer, answer, refusal}
@@ -41,6 +41,12 @@ first-flags flags (channel ∷ rest) = refl
 
 pub flags-step : (s : List ℕ) (i : ℕ) → i < length s → all_flags_fit (drop i s) ≡ flags_fit (get_or s i 0) && all_flags_fit (drop (i + 2) s)
 flags-step s i h = rw (one_at s i h, first-flags (get_or s i 0) (drop (i + 1) s), drop-drop 1 (i + 1) s, add_assoc i 1 1)
+
+pub flags_stop : (s : List ℕ) (i : ℕ) → i < length s → 0x3F < get_or s i 0 → all_flags_fit (drop i s) ≡ false
+flags_stop s i h large = rw (flags-step s i h, lt-leb (get_or s i 0) 0x3F large)
+
+pub flags_pass : (s : List ℕ) (i : ℕ) → i < length s → get_or s i 0 ≤ 0x3F → all_flags_fit (drop i s) ≡ all_flags_fit (drop (i + 2) s)
+flags_pass s i h small = rw (flags-step s i h, le-leb (get_or s i 0) 0x3F small)
 
 -- an entry of one byte or of two, as a channel
 start : (s : List ℕ) (i : ℕ) → get_or (drop i s) 0 0 ≡ get_or s i 0

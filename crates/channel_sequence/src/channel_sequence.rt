@@ -299,6 +299,7 @@ fn all_zero(unused: &[u8]) -> bool
     true
 }
 
+#[tactic(auto, using(crate::proofs::Entries::flags_stop, crate::proofs::Entries::flags_pass))]
 fn all_flags_fit(entries: &[u8]) -> bool
     ensures { result ≡ all_flags_fit entries.now }
 {
