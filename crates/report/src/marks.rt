@@ -15,7 +15,7 @@ use tlvs::{Item, Step};
 use wire::Place;
 
 // A place in a report, from which a caller goes on.
-#[derive(Drop)]
+#[derive(Clone, Copy)]
 pub enum Mark {
     // The one line of an input that is too long.
     TooLong,
@@ -30,7 +30,7 @@ pub enum Mark {
     End,
 }
 
-#[derive(Drop)]
+#[derive(Clone, Copy)]
 pub enum Line {
     // A line of so many bytes, and the mark behind it.
     Text(usize, Mark),

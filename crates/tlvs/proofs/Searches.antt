@@ -171,3 +171,6 @@ module _ {A : Type 0} (n : ℕ) (r : Reader A) (s : List ℕ) where
 
   pub gives-all-once : {at : ℕ} {xs ys : List (Match A)} → GivesRecords (next_from n r s) at xs → GivesRecords (next_from n r s) at ys → xs ≡ ys
   gives-all-once g h = sym (only-all g) ∙ only-all h
+
+-- what a turn of a search goes by
+pub ruleset turns = (step_less, passes-other, search-ends)

@@ -40,6 +40,7 @@ pub struct FoundChannelSequence {
 
 // Each turn looks at one item, and passes over it where it is of another type or its value is refused. The search ends where
 // the walk does, whole or cut.
+#[tactic(auto, using(crate::proofs::Searches::turns))]
 pub fn next_data_path(tail: &[u8], from: usize) -> FoundDataPath
     ensures { said_found_data_path result ≡ Search.next_data_path tail.now from }
 {
@@ -81,6 +82,7 @@ fn no_synchronization() -> FoundSynchronization
     }
 }
 
+#[tactic(auto, using(crate::proofs::Searches::turns))]
 pub fn next_synchronization(tail: &[u8], from: usize) -> FoundSynchronization
     ensures { result ≡ synchronization_found (Search.next_synchronization tail.now from) }
 {
@@ -126,6 +128,7 @@ fn no_channel_sequence() -> FoundChannelSequence
     }
 }
 
+#[tactic(auto, using(crate::proofs::Searches::turns))]
 pub fn next_channel_sequence(tail: &[u8], from: usize) -> FoundChannelSequence
     ensures { result ≡ channel_sequence_found (Search.next_channel_sequence tail.now from) }
 {

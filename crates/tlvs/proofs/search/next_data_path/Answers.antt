@@ -1,30 +1,11 @@
--- What is found from the place that was come to is what is found from the first one, since only items that give nothing were passed.
+-- A value that is refused is passed over, and the record of one that is read is taken.
 -- Assumes nothing.
 use Rattle.std.proofs.Common.{sym}
-use Rattle.data_path_state.specs.DataPath.{data_path}
-use Rattle.tlvs.proofs.Searches.{step_less, passes-other, passes-refused, takes-read, search-ends}
+use Rattle.tlvs.proofs.Searches.{passes-refused, takes-read}
 use Rattle.tlvs.proofs.search.next_data_path.Goals as goal
 
-pub returns-in_default : goal.returns-in_default
-returns-in_default c =
-    search-ends 0x0C data_path c.args.tail.now c.args.from c.loop-item.at c.loop-item.invariant c.step-found.ensures c.in_default.not-Item
-
-pub loop-item-smaller-then-item-ne-TLV_TYPE : goal.loop-item-smaller-then-item-ne-TLV_TYPE
-loop-item-smaller-then-item-ne-TLV_TYPE c = step_less c.args.tail.now c.loop-item.at c.step-found.ensures c.in-Item.is
-
-pub loop-item-preserved-then-item-ne-TLV_TYPE : goal.loop-item-preserved-then-item-ne-TLV_TYPE
-loop-item-preserved-then-item-ne-TLV_TYPE c =
-    passes-other 0x0C data_path c.args.tail.now c.args.from c.loop-item.at c.in-Item.is c.step-found.ensures c.loop-item.invariant c.if-item-ne-TLV_TYPE.true
-
-pub loop-item-smaller : goal.loop-item-smaller
-loop-item-smaller c = step_less c.args.tail.now c.loop-item.at c.step-found.ensures c.in-Item.is
-
 pub loop-item-preserved : goal.loop-item-preserved
-loop-item-preserved c =
-    passes-refused 0x0C data_path c.args.tail.now c.args.from c.loop-item.at c.in-Item.is c.step-found.ensures c.loop-item.invariant c.value_at-value.ensures.0
-    c.if-item-ne-TLV_TYPE.false (sym c.in_default-read.ensures)
+loop-item-preserved c = search (passes-refused, sym c.in_default-read.ensures)
 
 pub returns-in-loop-item : goal.returns-in-loop-item
-returns-in-loop-item c =
-    takes-read 0x0C data_path c.args.tail.now c.args.from c.loop-item.at c.in-Item.is c.step-found.ensures c.loop-item.invariant c.value_at-value.ensures.0
-    c.if-item-ne-TLV_TYPE.false (sym c.in-Read.ensures)
+returns-in-loop-item c = search (takes-read, sym c.in-Read.ensures)

@@ -1,0 +1,8 @@
+-- The words and their numbers stand behind each other, with room for all.
+-- Assumes nothing.
+use Rattle.report.proofs.Room.{room-then}
+use Rattle.report.proofs.lines.two_numbers.Goals as goal
+
+pub returns : goal.returns
+returns c =
+    room-then (room-then c.put_named-behind_first.ensures.put_with_room c.put_named-behind_second.ensures.put_with_room) c.put_text.ensures.put_with_room
