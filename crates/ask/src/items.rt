@@ -39,7 +39,7 @@ fn show_both(step: Step, value: &[u8], out: &mut Output, at: usize) -> usize {
 
 // No covered function can hold a step with its value, so that these five are proved by hand: four of them hand on one of the two.
 fn reader_both<'a>(tail: &'a [u8], at: usize) -> StepWithValue<'a>
-    ensures { (result.step ≡ step_at tail.now at) × (result.value.now ≡ value_at tail.now at) × (result.value.ptr ≡ part_at (value_start_at tail.now at) tail.entry.ref_ptr) }
+    ensures { (result.step ≡ step_at tail.now at) × (result.value.now ≡ value_at tail.now at) × (result.value.ref_ptr ≡ part_at (value_start_at tail.now at) tail.entry.ref_ptr) }
 {
     ReadTLVs::new(tail).go_on(at).next()
 }

@@ -155,12 +155,7 @@ fn put_answer(out: &mut [u8], question: Question, sequences: &[u8], permitted: &
 }
 
 // Whether the answer was written. It has room for a judgement and sixteen loads.
-pub(crate) fn show(
-    stdout: Stdout,
-    question: Question,
-    sequences: &[u8],
-    permitted: &[u8],
-) -> bool {
+pub(crate) fn show(stdout: Stdout, question: Question, sequences: &[u8], permitted: &[u8]) -> bool {
     let mut out = [0u8; 512];
     let n = put_answer(&mut out, question, sequences, permitted);
     stdout.write_all(first(&out, n)).is_ok()

@@ -3,8 +3,8 @@
 use Rattle.std.proofs.Common.{length, ◌-◌, ◌≤◌}
 use Rattle.dump.proofs.read_input.Given as goal
 
-abbrev pub invariant-loop : goal.invariant-loop
-invariant-loop l = l.at ≤ length l.space
+abbrev pub invariant-loop-at : goal.invariant-loop-at
+invariant-loop-at l = l.at ≤ length l.space
 
-abbrev pub decreases-loop : goal.decreases-loop
-decreases-loop l = length l.space - l.at
+abbrev pub decreases-loop-at : goal.decreases-loop-at
+decreases-loop-at l = length l.space - l.at
