@@ -1,3 +1,2 @@
 // No code: what the library promises stands in specs/ and is proved in proofs/.
 #![tactic(auto)]
-
