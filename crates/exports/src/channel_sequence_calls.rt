@@ -185,11 +185,7 @@ pub fn awdl_channel_sequence_size(numbers: &[u32; 36], size: &mut usize) -> u32
     tell_size(answer, size)
 }
 
-pub fn awdl_channel_sequence_write(
-    numbers: &[u32; 36],
-    buffer: &mut [u8],
-    size: &mut usize,
-) -> u32
+pub fn awdl_channel_sequence_write(numbers: &[u32; 36], buffer: &mut [u8], size: &mut usize) -> u32
     ensures { ToldWriting buffer.old (channel_sequence_bytes numbers.now) result size.new buffer.new }
 {
     let all = &numbers[..];

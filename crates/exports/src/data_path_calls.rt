@@ -83,11 +83,7 @@ pub fn awdl_data_path_size(numbers: &[u32; 44], size: &mut usize) -> u32
     tell_size(answer, size)
 }
 
-pub fn awdl_data_path_write(
-    numbers: &[u32; 44],
-    buffer: &mut [u8],
-    size: &mut usize,
-) -> u32
+pub fn awdl_data_path_write(numbers: &[u32; 44], buffer: &mut [u8], size: &mut usize) -> u32
     ensures { ToldWriting buffer.old (data_path_bytes numbers.now) result size.new buffer.new }
 {
     let wrote = data_path_write(numbers, buffer);

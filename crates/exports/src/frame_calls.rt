@@ -72,12 +72,7 @@ pub fn awdl_frame_read(
     }
 }
 
-pub fn awdl_frame_write(
-    frame: &[u32; 4],
-    tail: &[u8],
-    buffer: &mut [u8],
-    size: &mut usize,
-) -> u32
+pub fn awdl_frame_write(frame: &[u32; 4], tail: &[u8], buffer: &mut [u8], size: &mut usize) -> u32
     ensures { ToldWriting buffer.old (frame_bytes frame.now tail.now) result size.new buffer.new }
 {
     let wrote = frame_write(frame, tail, buffer);

@@ -19,12 +19,7 @@ fn write_item(tlv_type: u32, value: &[u8], buffer: &mut [u8]) -> Size
     Size::Refused(Refusal::Inconsistent)
 }
 
-pub fn awdl_write_item(
-    tlv_type: u32,
-    value: &[u8],
-    buffer: &mut [u8],
-    size: &mut usize,
-) -> u32
+pub fn awdl_write_item(tlv_type: u32, value: &[u8], buffer: &mut [u8], size: &mut usize) -> u32
     ensures { ToldWriting buffer.old (item_bytes_in tlv_type value.now) result size.new buffer.new }
 {
     let wrote = write_item(tlv_type, value, buffer);

@@ -74,12 +74,7 @@ pub fn awdl_own_proposal(
     }
 }
 
-pub fn awdl_channel_load(
-    sequences: &[u8],
-    channel: u32,
-    offset: &mut usize,
-    load: &mut u32,
-) -> u32
+pub fn awdl_channel_load(sequences: &[u8], channel: u32, offset: &mut usize, load: &mut u32) -> u32
     ensures { ToldPlaced (result_of 0 (load_of sequences.now channel)) result offset.new load.new }
 {
     match channel_load(sequences, channel) {

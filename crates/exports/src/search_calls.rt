@@ -67,11 +67,7 @@ pub fn awdl_next_data_path(
     }
 }
 
-pub fn awdl_first_data_path(
-    tail: &[u8],
-    item: &mut [usize; 4],
-    numbers: &mut [u32; 44],
-) -> u32
+pub fn awdl_first_data_path(tail: &[u8], item: &mut [usize; 4], numbers: &mut [u32; 44]) -> u32
     ensures { ToldSearch data_path_numbers zero_data_path (next_data_path tail.now 0) result item.new numbers.new }
 {
     awdl_next_data_path(tail, 0, item, numbers)

@@ -255,11 +255,7 @@ pub fn awdl_sequence_size(sequence: &[u32; 33], size: &mut usize) -> u32
     tell_size(answer, size)
 }
 
-pub fn awdl_sequence_write(
-    sequence: &[u32; 33],
-    buffer: &mut [u8],
-    size: &mut usize,
-) -> u32
+pub fn awdl_sequence_write(sequence: &[u32; 33], buffer: &mut [u8], size: &mut usize) -> u32
     ensures { ToldWriting buffer.old (sequence_bytes sequence.now) result size.new buffer.new }
 {
     let all = &sequence[..];

@@ -301,11 +301,7 @@ pub fn awdl_synchronization_size(numbers: &[u32; 60], size: &mut usize) -> u32
     tell_size(answer, size)
 }
 
-pub fn awdl_synchronization_write(
-    numbers: &[u32; 60],
-    buffer: &mut [u8],
-    size: &mut usize,
-) -> u32
+pub fn awdl_synchronization_write(numbers: &[u32; 60], buffer: &mut [u8], size: &mut usize) -> u32
     ensures { ToldWriting buffer.old (synchronization_bytes numbers.now) result size.new buffer.new }
 {
     let all = &numbers[..];

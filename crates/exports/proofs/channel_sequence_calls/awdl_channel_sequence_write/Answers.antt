@@ -1,6 +1,6 @@
 -- The size is that of the bytes, and these are put where there is room for them: the head, and the entries behind it.
 -- Assumes nothing.
-use Rattle.std.proofs.Common.{ℕ, List, ◌+◌, ◌-◌, ◌≤◌, ◌≡◌, ◌++◌, true, length, take, drop, refl, ap, ◌∙◌, arith, rules, length-append, length-drop}
+use Rattle.std.proofs.Common.{ℕ, List, ◌-◌, ◌≤◌, ◌≡◌, ◌++◌, true, length, take, drop, refl, ap, ◌∙◌, arith, rules, length-append, length-drop}
 use lib.Seq.{length-take-le}
 use Rattle.wire.specs.Answer.{answer}
 use Rattle.wire.specs.Writing.{length_of}

@@ -1,6 +1,6 @@
 -- The value stands behind the type and the length.
 -- Assumes nothing.
-use Rattle.std.proofs.Common.{◌+◌, [], ◌∷◌, refl, sym, ap, ◌∙◌, arith}
+use Rattle.std.proofs.Common.{◌+◌, [], ◌∷◌, refl, sym, arith}
 use Rattle.tlv_items.proofs.Steps.{step-stands}
 use Rattle.exports.proofs.item_calls.awdl_step.Goals as goal
 

@@ -1,6 +1,6 @@
 -- One more number is stored as a byte, where the next one of what is pasted stands.
 -- Assumes nothing.
-use Rattle.std.proofs.Common.{◌≡◌, ◌<◌, arith, length-set, replicate}
+use Rattle.std.proofs.Common.{◌≡◌, arith, length-set, replicate}
 use Rattle.exports.proofs.Fits.{octet-at, taken_step, taken-all}
 use Rattle.exports.proofs.numbers.bytes_from.Goals as goal
 

@@ -50,6 +50,6 @@ returns c =
     let ns = c.args.numbers.now in
     let at = c.args.at in
     let not =
-        other-unsized (sequence_of (drop at ns)) (λ e. c.if-encoding-eq0.false (sym (code ns at) ∙ e)) (λ e. c.if-encoding-eq1.false (sym (code ns at) ∙ e))
-        (λ e. c.if-encoding-eq3.false (sym (code ns at) ∙ e)) in
+    other-unsized (sequence_of (drop at ns)) (λ e. c.if-encoding-eq0.false (sym (code ns at) ∙ e)) (λ e. c.if-encoding-eq1.false (sym (code ns at) ∙ e))
+    (λ e. c.if-encoding-eq3.false (sym (code ns at) ∙ e)) in
     number-told (sym (ap length_of not)) (record { number = c.number_of-2.ensures; value = refl })

@@ -1,6 +1,6 @@
 -- One more entry is laid down with the bits of its flags that have a name; behind the last one nothing is left.
 -- Assumes nothing.
-use Rattle.std.proofs.Common.{◌+◌, ◌≡◌, sym, arith, length-set, get_or, drop}
+use Rattle.std.proofs.Common.{◌+◌, sym, arith, length-set, get_or, drop}
 use lib.ListN.{drop_of_length-le}
 use lib.Seq.{take_all}
 use mathlib.Core.List.{append-nil}

@@ -1,6 +1,6 @@
 -- The encoding stands in front of the entries.
 -- Assumes nothing.
-use Rattle.std.proofs.Common.{◌≡◌, sym, ap, ◌∙◌, arith}
+use Rattle.std.proofs.Common.{sym, ap, ◌∙◌, arith}
 use Rattle.wire.specs.Said.{said_place}
 use Rattle.wire.proofs.Bytes.{placed}
 use Rattle.wire.proofs.Once.{told}

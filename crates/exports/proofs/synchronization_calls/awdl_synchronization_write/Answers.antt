@@ -1,6 +1,6 @@
 -- The size is that of the bytes, and these are put where there is room for them: the fixed part, the head, and the entries behind it.
 -- Assumes nothing.
-use Rattle.std.proofs.Common.{ℕ, List, ◌+◌, ◌-◌, ◌≤◌, ◌≡◌, ◌++◌, true, length, take, drop, refl, ap, ◌∙◌, arith, rules, append_assoc, length-append, length-drop}
+use Rattle.std.proofs.Common.{ℕ, List, ◌-◌, ◌≤◌, ◌≡◌, ◌++◌, true, length, take, drop, refl, ap, ◌∙◌, arith, rules, append_assoc, length-append, length-drop}
 use lib.ListN.{take-append-drop}
 use lib.Seq.{length-take-le, drop-drop}
 use Rattle.wire.specs.Answer.{answer}

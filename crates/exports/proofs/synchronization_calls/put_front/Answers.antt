@@ -25,23 +25,23 @@ returns c =
     let small : (k : ℕ) → get_or ns k 0 ≤ get_or synchronization_largest k 0 = λ k. fits-at ns synchronization_largest k c.requires.synchronization_largest_value in
     put_same
     (λ i.
-        (c.byte.ensures ∙ sym (byte (get_or ns 0 0) (omega (arith, small 0)))) i ∷
-        (ap (λ l. get_or l 0 0) c.u16_bytes-tx_counter.ensures ∙ ap (λ x. x % 256) c.word.ensures) i ∷
-        (ap (λ l. get_or l 1 0) c.u16_bytes-tx_counter.ensures ∙ ap (λ x. x / 256 % 256) c.word.ensures) i ∷
-        (c.byte-2.ensures ∙ sym (byte (get_or ns 2 0) (omega (arith, small 2)))) i ∷
-        (c.byte-3.ensures ∙ sym (byte (get_or ns 3 0) (omega (arith, small 3)))) i ∷
-        (ap (λ l. get_or l 0 0) c.u16_bytes-aw_period.ensures ∙ ap (λ x. x % 256) c.word-2.ensures) i ∷
-        (ap (λ l. get_or l 1 0) c.u16_bytes-aw_period.ensures ∙ ap (λ x. x / 256 % 256) c.word-2.ensures) i ∷
-        (ap (λ l. get_or l 0 0) c.u16_bytes-af_period.ensures ∙ ap (λ x. x % 256) c.word-3.ensures) i ∷
-        (ap (λ l. get_or l 1 0) c.u16_bytes-af_period.ensures ∙ ap (λ x. x / 256 % 256) c.word-3.ensures) i ∷
-        (ap (λ l. get_or l 0 0) c.u16_bytes-awdl_flags.ensures ∙ ap (λ x. x % 256) c.word-4.ensures) i ∷
-        (ap (λ l. get_or l 1 0) c.u16_bytes-awdl_flags.ensures ∙ ap (λ x. x / 256 % 256) c.word-4.ensures) i ∷
-        (ap (λ l. get_or l 0 0) c.u16_bytes-aw_ext_length.ensures ∙ ap (λ x. x % 256) c.word-5.ensures) i ∷
-        (ap (λ l. get_or l 1 0) c.u16_bytes-aw_ext_length.ensures ∙ ap (λ x. x / 256 % 256) c.word-5.ensures) i ∷
-        (ap (λ l. get_or l 0 0) c.u16_bytes-aw_common_length.ensures ∙ ap (λ x. x % 256) c.word-6.ensures) i ∷
-        (ap (λ l. get_or l 1 0) c.u16_bytes-aw_common_length.ensures ∙ ap (λ x. x / 256 % 256) c.word-6.ensures) i ∷
-        (ap (λ l. get_or l 0 0) c.u16_bytes-remaining_aw_length.ensures ∙ ap (λ x. x % 256) c.word-7.ensures) i ∷
-        (ap (λ l. get_or l 1 0) c.u16_bytes-remaining_aw_length.ensures ∙ ap (λ x. x / 256 % 256) c.word-7.ensures) i ∷ [])
+    (c.byte.ensures ∙ sym (byte (get_or ns 0 0) (omega (arith, small 0)))) i ∷
+    (ap (λ l. get_or l 0 0) c.u16_bytes-tx_counter.ensures ∙ ap (λ x. x % 256) c.word.ensures) i ∷
+    (ap (λ l. get_or l 1 0) c.u16_bytes-tx_counter.ensures ∙ ap (λ x. x / 256 % 256) c.word.ensures) i ∷
+    (c.byte-2.ensures ∙ sym (byte (get_or ns 2 0) (omega (arith, small 2)))) i ∷
+    (c.byte-3.ensures ∙ sym (byte (get_or ns 3 0) (omega (arith, small 3)))) i ∷
+    (ap (λ l. get_or l 0 0) c.u16_bytes-aw_period.ensures ∙ ap (λ x. x % 256) c.word-2.ensures) i ∷
+    (ap (λ l. get_or l 1 0) c.u16_bytes-aw_period.ensures ∙ ap (λ x. x / 256 % 256) c.word-2.ensures) i ∷
+    (ap (λ l. get_or l 0 0) c.u16_bytes-af_period.ensures ∙ ap (λ x. x % 256) c.word-3.ensures) i ∷
+    (ap (λ l. get_or l 1 0) c.u16_bytes-af_period.ensures ∙ ap (λ x. x / 256 % 256) c.word-3.ensures) i ∷
+    (ap (λ l. get_or l 0 0) c.u16_bytes-awdl_flags.ensures ∙ ap (λ x. x % 256) c.word-4.ensures) i ∷
+    (ap (λ l. get_or l 1 0) c.u16_bytes-awdl_flags.ensures ∙ ap (λ x. x / 256 % 256) c.word-4.ensures) i ∷
+    (ap (λ l. get_or l 0 0) c.u16_bytes-aw_ext_length.ensures ∙ ap (λ x. x % 256) c.word-5.ensures) i ∷
+    (ap (λ l. get_or l 1 0) c.u16_bytes-aw_ext_length.ensures ∙ ap (λ x. x / 256 % 256) c.word-5.ensures) i ∷
+    (ap (λ l. get_or l 0 0) c.u16_bytes-aw_common_length.ensures ∙ ap (λ x. x % 256) c.word-6.ensures) i ∷
+    (ap (λ l. get_or l 1 0) c.u16_bytes-aw_common_length.ensures ∙ ap (λ x. x / 256 % 256) c.word-6.ensures) i ∷
+    (ap (λ l. get_or l 0 0) c.u16_bytes-remaining_aw_length.ensures ∙ ap (λ x. x % 256) c.word-7.ensures) i ∷
+    (ap (λ l. get_or l 1 0) c.u16_bytes-remaining_aw_length.ensures ∙ ap (λ x. x / 256 % 256) c.word-7.ensures) i ∷ [])
     (put-stored 16 c.args.buffer.now 0
     (c.byte.result ∷
     get_or c.u16_bytes-tx_counter.result 0 0 ∷

@@ -56,22 +56,22 @@ returns c =
     let small : (k : ℕ) → get_or ns k 0 ≤ get_or synchronization_largest k 0 = λ k. fits-at ns synchronization_largest k c.requires.synchronization_largest_value in
     put_same
     (λ i.
-        (c.byte.ensures ∙ sym (byte (get_or ns 10 0) (omega (arith, small 10)))) i ∷
-        (c.byte-2.ensures ∙ sym (byte (get_or ns 11 0) (omega (arith, small 11)))) i ∷
-        (c.byte-3.ensures ∙ sym (byte (get_or ns 12 0) (omega (arith, small 12)))) i ∷
-        (c.byte-4.ensures ∙ sym (byte (get_or ns 13 0) (omega (arith, small 13)))) i ∷
-        (c.byte-5.ensures ∙ sym (get_or-drop 14 ns 0 0)) i ∷
-        (c.byte-6.ensures ∙ sym (get_or-drop 14 ns 1 0)) i ∷
-        (c.byte-7.ensures ∙ sym (get_or-drop 14 ns 2 0)) i ∷
-        (c.byte-8.ensures ∙ sym (get_or-drop 14 ns 3 0)) i ∷
-        (c.byte-9.ensures ∙ sym (get_or-drop 14 ns 4 0)) i ∷
-        (c.byte-10.ensures ∙ sym (get_or-drop 14 ns 5 0)) i ∷
-        (c.byte-11.ensures ∙ sym (byte (get_or ns 20 0) (omega (arith, small 20)))) i ∷
-        (c.byte-12.ensures ∙ sym (byte (get_or ns 21 0) (omega (arith, small 21)))) i ∷
-        (ap (λ l. get_or l 0 0) c.u16_bytes-aw_seq_number.ensures ∙ ap (λ x. x % 256) c.word.ensures) i ∷
-        (ap (λ l. get_or l 1 0) c.u16_bytes-aw_seq_number.ensures ∙ ap (λ x. x / 256 % 256) c.word.ensures) i ∷
-        (ap (λ l. get_or l 0 0) c.u16_bytes-ap_beacon_alignment_delta.ensures ∙ ap (λ x. x % 256) c.word-2.ensures) i ∷
-        (ap (λ l. get_or l 1 0) c.u16_bytes-ap_beacon_alignment_delta.ensures ∙ ap (λ x. x / 256 % 256) c.word-2.ensures) i ∷ [])
+    (c.byte.ensures ∙ sym (byte (get_or ns 10 0) (omega (arith, small 10)))) i ∷
+    (c.byte-2.ensures ∙ sym (byte (get_or ns 11 0) (omega (arith, small 11)))) i ∷
+    (c.byte-3.ensures ∙ sym (byte (get_or ns 12 0) (omega (arith, small 12)))) i ∷
+    (c.byte-4.ensures ∙ sym (byte (get_or ns 13 0) (omega (arith, small 13)))) i ∷
+    (c.byte-5.ensures ∙ sym (get_or-drop 14 ns 0 0)) i ∷
+    (c.byte-6.ensures ∙ sym (get_or-drop 14 ns 1 0)) i ∷
+    (c.byte-7.ensures ∙ sym (get_or-drop 14 ns 2 0)) i ∷
+    (c.byte-8.ensures ∙ sym (get_or-drop 14 ns 3 0)) i ∷
+    (c.byte-9.ensures ∙ sym (get_or-drop 14 ns 4 0)) i ∷
+    (c.byte-10.ensures ∙ sym (get_or-drop 14 ns 5 0)) i ∷
+    (c.byte-11.ensures ∙ sym (byte (get_or ns 20 0) (omega (arith, small 20)))) i ∷
+    (c.byte-12.ensures ∙ sym (byte (get_or ns 21 0) (omega (arith, small 21)))) i ∷
+    (ap (λ l. get_or l 0 0) c.u16_bytes-aw_seq_number.ensures ∙ ap (λ x. x % 256) c.word.ensures) i ∷
+    (ap (λ l. get_or l 1 0) c.u16_bytes-aw_seq_number.ensures ∙ ap (λ x. x / 256 % 256) c.word.ensures) i ∷
+    (ap (λ l. get_or l 0 0) c.u16_bytes-ap_beacon_alignment_delta.ensures ∙ ap (λ x. x % 256) c.word-2.ensures) i ∷
+    (ap (λ l. get_or l 1 0) c.u16_bytes-ap_beacon_alignment_delta.ensures ∙ ap (λ x. x / 256 % 256) c.word-2.ensures) i ∷ [])
     (put-stored 15 c.args.buffer.now 17
     (c.byte.result ∷
     c.byte-2.result ∷

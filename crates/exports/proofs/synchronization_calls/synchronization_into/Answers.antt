@@ -47,7 +47,7 @@ returns-then-why-eq0-clause-told c =
     let enough : 33 ≤ length s = omega arith in
     rw (all-fields s enough)
     (behind-told zero_channel_sequence zero_synchronization 0 33 (fields_of s) (channel_sequence_record s 33) (inside s enough) c.if-why-eq0.true
-        c.channel_sequence_into-why.ensures.told).0
+    c.channel_sequence_into-why.ensures.told).0
 
 pub returns-then-why-eq0-clause-laid : goal.returns-then-why-eq0-clause-laid
 returns-then-why-eq0-clause-laid c none =
@@ -63,4 +63,4 @@ returns-else-why-eq0-clause-told c =
     let s = c.args.s.now in
     rw (all-fields s (omega arith))
     (behind-refused zero_channel_sequence zero_synchronization 0 33 (fields_of s) (channel_sequence_record s 33) c.if-why-eq0.false
-        c.channel_sequence_into-why.ensures.told)
+    c.channel_sequence_into-why.ensures.told)
