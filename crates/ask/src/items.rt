@@ -37,7 +37,7 @@ fn show_both(step: Step, value: &[u8], out: &mut Output, at: usize) -> usize {
     named_hex(out, behind_step, b" value=", value)
 }
 
-// No covered function can hold a step with its value, so that these five are proved by hand: four of them hand on one of the two.
+// A step with its value, as a reader that is set to a place answers it, and either of the two from there or from the call itself.
 fn reader_both<'a>(tail: &'a [u8], at: usize) -> StepWithValue<'a>
     ensures { (result.step ≡ step_at tail.now at) × (result.value.now ≡ value_at tail.now at) × (result.value.ref_ptr ≡ part_at (value_start_at tail.now at) tail.entry.ref_ptr) }
 {
