@@ -10,7 +10,7 @@ use lib.Dec.{lit<}
 use lib.ListN.{length, get_or, length-append}
 use lib.Seq.{drop-append_seam, take-append_seam}
 use borrow.Author.Tests.{le-leb}
-use Rattle.wire.specs.declared.read.MACAddress.{MACAddress}
+use Rattle.wire.specs.declared.value.MACAddress.{MACAddress}
 use Rattle.wire.specs.Reading.{Reader, read, give, field, ◌>>=◌, when}
 use Rattle.wire.specs.FromBytes.{ReadFromBytes}
 use Rattle.wire.specs.Answer.{Answer, answer, asked}

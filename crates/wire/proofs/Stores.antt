@@ -10,10 +10,10 @@ use lib.Dec.{leb}
 use lib.ListN.{length, get_or, set, take, drop, length-append, length-take, length-drop, take-append-drop}
 use lib.Seq.{paste, paste-zero, paste-suc, take-length, take_at, drop-append-add, drop-drop}
 use borrow.Author.Tests.{le-leb, lt-leb, leb-true, leb-false}
+use Rattle.std.specs.Prelude.{Result, Ok, Err}
 use Rattle.wire.specs.declared.refusal.Refusal.{Refusal}
-use Rattle.wire.specs.declared.write.Size.{Size}
 use Rattle.wire.specs.Answer.{Answer, answer, refusal, ◌>>=◌}
-use Rattle.wire.specs.Said.{said_size}
+use Rattle.wire.specs.Said.{told}
 use Rattle.wire.specs.Writing.{fits, Put, PutIfRoom, within, length_of, Wrote}
 use Rattle.wire.proofs.Bytes.{within-room}
 
@@ -133,14 +133,14 @@ abbrev pub RoomFor : Answer ℕ → ℕ → ℕ → Type 0
 RoomFor size n room = (size ≡ answer n) × (n ≤ room)
 
 -- a writer asks the size and then the room for it: where a size was given, it is the record's and there is room for it,
-pub room_for : {room n : ℕ} {asked size : Answer ℕ} {r : Size} → asked ≡ size → said_size r ≡ within room asked → r ≡ Size.Bytes n → RoomFor size n room
-room_for {room} {size = size} same said given = within-room room size (ap said_size (sym given) ∙ said ∙ ap (within room) same)
+pub room_for : {room n : ℕ} {asked size : Answer ℕ} {r : Result ℕ Refusal} → asked ≡ size → told r ≡ within room asked → r ≡ Ok n → RoomFor size n room
+room_for {room} {size = size} same said given = within-room room size (ap told (sym given) ∙ said ∙ ap (within room) same)
 
 -- and where it was refused, nothing is written
-pub wrote-refused : (s : List ℕ) (bytes : Answer (List ℕ)) {asked size : Answer ℕ} {r : Size} {why : Refusal} → length_of bytes ≡ size → asked ≡ size
-    → said_size r ≡ within (length s) asked → r ≡ Size.Refused why → Wrote s bytes (refusal why) s
+pub wrote-refused : (s : List ℕ) (bytes : Answer (List ℕ)) {asked size : Answer ℕ} {r : Result ℕ Refusal} {why : Refusal} → length_of bytes ≡ size → asked ≡ size
+    → told r ≡ within (length s) asked → r ≡ Err why → Wrote s bytes (refusal why) s
 wrote-refused s bytes long same said given =
-    wrote_none s bytes (ap said_size (sym given) ∙ said ∙ ap (within (length s)) (same ∙ sym long))
+    wrote_none s bytes (ap told (sym given) ∙ said ∙ ap (within (length s)) (same ∙ sym long))
 
 -- runs are put one behind the other, from any place
 infixl 20 ◌and-then◌

@@ -1,6 +1,6 @@
 -- Addresses: six bytes in the order of the wire.
 use Rattle.std.specs.Prelude.{ℕ, List, [], ◌∷◌, get_or}
-use Rattle.wire.specs.declared.read.MACAddress.{MACAddress}
+use Rattle.wire.specs.declared.value.MACAddress.{MACAddress}
 use Rattle.wire.specs.Reading.{Reader, field, give, ◌>>=◌}
 
 abbrev pub address_of : List ℕ → MACAddress

@@ -24,35 +24,9 @@ number_of (SmallerLoad own) = 30
 -- where it was short; all others have 0
 abbrev pub offset_of : Refusal → ℕ
 offset_of (Short at) = at
-offset_of NotAction = 0
-offset_of NotVersion = 0
-offset_of UnicastLength = 0
-offset_of Encoding = 0
-offset_of NoRoom = 0
-offset_of Inconsistent = 0
-offset_of TooLong = 0
-offset_of ChannelCount = 0
-offset_of LegacySequence = 0
-offset_of CorrectedChannel = 0
-offset_of TooMany = 0
-offset_of NonePermitted = 0
-offset_of NotPermitted = 0
-offset_of (SmallerLoad own) = 0
+offset_of _ = 0
 
 -- our own proposal beside the refusal of another; all others have 0
 abbrev pub carried_channel : Refusal → ℕ
-carried_channel (Short at) = 0
-carried_channel NotAction = 0
-carried_channel NotVersion = 0
-carried_channel UnicastLength = 0
-carried_channel Encoding = 0
-carried_channel NoRoom = 0
-carried_channel Inconsistent = 0
-carried_channel TooLong = 0
-carried_channel ChannelCount = 0
-carried_channel LegacySequence = 0
-carried_channel CorrectedChannel = 0
-carried_channel TooMany = 0
-carried_channel NonePermitted = 0
-carried_channel NotPermitted = 0
 carried_channel (SmallerLoad own) = own
+carried_channel _ = 0

@@ -1,4 +1,4 @@
-// The type numbers of the items that are known by name. Any other byte is a type too.
+// The type numbers of the items that are known by name. They are bytes and no enum: any other byte is a type too, and is handed on as it is.
 #[derive(Drop)]
 pub struct AWDLTLVType;
 

@@ -2,7 +2,7 @@ ghost use Rattle.std.specs.Prelude.{◌≡◌};
 ghost use Rattle.wire.specs.Refusals.{number_of, offset_of, carried_channel};
 
 // Why a call refuses. Every crate answers with one of these.
-#[derive(Clone, Copy)]
+#[derive(Clone, Copy, Debug, PartialEq, Eq, Hash)]
 pub enum Refusal {
     // The input ends before a byte that is needed. The offset is that of the first byte of the field that does not fit, counted
     // from the start of what the reader was given.
@@ -68,20 +68,7 @@ impl Refusal {
     {
         match self {
             Refusal::Short(at) => at,
-            Refusal::NotAction => 0,
-            Refusal::NotVersion => 0,
-            Refusal::UnicastLength => 0,
-            Refusal::Encoding => 0,
-            Refusal::NoRoom => 0,
-            Refusal::Inconsistent => 0,
-            Refusal::TooLong => 0,
-            Refusal::ChannelCount => 0,
-            Refusal::LegacySequence => 0,
-            Refusal::CorrectedChannel => 0,
-            Refusal::TooMany => 0,
-            Refusal::NonePermitted => 0,
-            Refusal::NotPermitted => 0,
-            Refusal::SmallerLoad(_) => 0,
+            _ => 0,
         }
     }
 
@@ -90,21 +77,8 @@ impl Refusal {
         ensures { result ≡ carried_channel self }
     {
         match self {
-            Refusal::Short(_) => 0,
-            Refusal::NotAction => 0,
-            Refusal::NotVersion => 0,
-            Refusal::UnicastLength => 0,
-            Refusal::Encoding => 0,
-            Refusal::NoRoom => 0,
-            Refusal::Inconsistent => 0,
-            Refusal::TooLong => 0,
-            Refusal::ChannelCount => 0,
-            Refusal::LegacySequence => 0,
-            Refusal::CorrectedChannel => 0,
-            Refusal::TooMany => 0,
-            Refusal::NonePermitted => 0,
-            Refusal::NotPermitted => 0,
             Refusal::SmallerLoad(own) => own,
+            _ => 0,
         }
     }
 }
