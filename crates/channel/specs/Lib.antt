@@ -1,5 +1,3 @@
--- Channels: encodings, flags and the corrected channel; Said and Outcomes: what each answer of the code says, and the number, offset and values
--- that it stands for.
+-- Channels: encodings, flags and the corrected channel; Outcomes: the number, offset and values that each answer stands for.
 pub mod Channels
-pub mod Said
 pub mod Outcomes

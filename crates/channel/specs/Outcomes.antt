@@ -1,15 +1,13 @@
 -- The number, the offset and the values that each answer stands for.
-use Rattle.std.specs.Prelude.{ℕ}
-use Rattle.wire.specs.Outcomes.{Result, result}
+use Rattle.std.specs.Prelude.{ℕ, Result}
+use Rattle.wire.specs.declared.refusal.Refusal.{Refusal}
+use Rattle.wire.specs.Outcomes.{Reply, reply_of}
 use Rattle.channel.specs.declared.channel.ChannelEncoding.{ChannelEncoding}
 use Rattle.channel.specs.declared.channel.ChannelEncoding.TheVariants.{Simple}
-use Rattle.channel.specs.declared.channel.FoundEncoding.{FoundEncoding}
-use Rattle.channel.specs.declared.channel.Corrected.{Corrected}
-use Rattle.channel.specs.Said.{said_encoding, said_corrected}
 
 -- the zero encoding is the one whose number is 0
-abbrev pub result_encoding : FoundEncoding → Result ChannelEncoding
-result_encoding r = result Simple (said_encoding r)
+abbrev pub reply_encoding : Result ChannelEncoding Refusal → Reply ChannelEncoding
+reply_encoding r = reply_of Simple r
 
-abbrev pub result_corrected : Corrected → Result ℕ
-result_corrected r = result 0 (said_corrected r)
+abbrev pub reply_corrected : Result ℕ Refusal → Reply ℕ
+reply_corrected r = reply_of 0 r

@@ -1,16 +1,16 @@
 ghost use Rattle.std.specs.Prelude.{◌≡◌};
-ghost use Rattle.wire.specs.Said.{said_size};
+ghost use Rattle.wire.specs.Said.{told};
 ghost use Rattle.channel.specs.Channels.{encoding_of, entry_size, size_of_encoding};
 ghost use Rattle.channel.specs.Channels.{support_channel, channel_bandwidth, band, kept_flags};
 ghost use Rattle.channel.specs.Channels.{corrected_legacy, corrected_in, corrected};
-ghost use Rattle.channel.specs.Said.{said_encoding, said_corrected};
 
-use wire::{Refusal, Size};
+use wire::Refusal;
 
-// The three channel encodings.
-#[derive(Clone, Copy)]
+// The three channel encodings. The one whose number is 0 is the default.
+#[derive(Clone, Copy, Debug, PartialEq, Eq, Hash, Default)]
 pub enum ChannelEncoding {
     // The channel alone.
+    #[default]
     Simple,
     // Flags, then the channel.
     Legacy,
@@ -18,32 +18,26 @@ pub enum ChannelEncoding {
     OpClass,
 }
 
-#[derive(Clone, Copy)]
-pub enum FoundEncoding {
-    Known(ChannelEncoding),
-    Refused(Refusal),
+// The one place that tells a listed encoding from any other.
+impl TryFrom<u8> for ChannelEncoding {
+    type Error = Refusal;
+
+    ghost try_from_gives = { λ encoding found. told found ≡ encoding_of encoding };
+
+    #[tactic(auto, unfolding(crate::specs::Channels::encoding_of))]
+    fn try_from(encoding: u8) -> Result<ChannelEncoding, Refusal> {
+        match encoding {
+            0 => Ok(ChannelEncoding::Simple),
+            ChannelEncoding::LEGACY => Ok(ChannelEncoding::Legacy),
+            3 => Ok(ChannelEncoding::OpClass),
+            _ => Err(Refusal::Encoding),
+        }
+    }
 }
 
 impl ChannelEncoding {
     // Sequences of this one are read and no longer written.
     pub const LEGACY: u8 = 1;
-
-    // The one place that tells a listed encoding from any other.
-    #[tactic(auto, unfolding(crate::specs::Channels::encoding_of))]
-    pub fn from_bits(encoding: u8) -> FoundEncoding
-        ensures { said_encoding result ≡ encoding_of encoding }
-    {
-        if encoding == 0 {
-            return FoundEncoding::Known(ChannelEncoding::Simple);
-        }
-        if encoding == ChannelEncoding::LEGACY {
-            return FoundEncoding::Known(ChannelEncoding::Legacy);
-        }
-        if encoding == 3 {
-            return FoundEncoding::Known(ChannelEncoding::OpClass);
-        }
-        FoundEncoding::Refused(Refusal::Encoding)
-    }
 
     // The bytes that one channel takes.
     pub fn entry_size(self) -> usize
@@ -51,8 +45,7 @@ impl ChannelEncoding {
     {
         match self {
             ChannelEncoding::Simple => 1,
-            ChannelEncoding::Legacy => 2,
-            ChannelEncoding::OpClass => 2,
+            ChannelEncoding::Legacy | ChannelEncoding::OpClass => 2,
         }
     }
 
@@ -61,25 +54,21 @@ impl ChannelEncoding {
         ensures { result ≡ corrected_in self first second }
     {
         match self {
-            ChannelEncoding::Simple => first,
+            ChannelEncoding::Simple | ChannelEncoding::OpClass => first,
             ChannelEncoding::Legacy => corrected_legacy(LegacyFlags(first), second),
-            ChannelEncoding::OpClass => first,
         }
     }
 
     // The bytes that one channel takes, for an encoding as it stands on the wire.
-    pub fn size(encoding: u8) -> Size
-        ensures { said_size result ≡ size_of_encoding encoding }
+    pub fn size(encoding: u8) -> Result<usize, Refusal>
+        ensures { told result ≡ size_of_encoding encoding }
     {
-        match ChannelEncoding::from_bits(encoding) {
-            FoundEncoding::Known(known) => Size::Bytes(known.entry_size()),
-            FoundEncoding::Refused(why) => Size::Refused(why),
-        }
+        Ok(ChannelEncoding::try_from(encoding)?.entry_size())
     }
 }
 
 // The flags of the legacy encoding, as named bits of one byte.
-#[derive(Clone, Copy)]
+#[derive(Clone, Copy, Debug, PartialEq, Eq, Hash, Default)]
 pub struct LegacyFlags(pub u8);
 
 impl LegacyFlags {
@@ -115,31 +104,19 @@ impl LegacyFlags {
 }
 
 // The two bytes of an entry. A simple channel has one, and its second is 0.
-#[derive(Clone, Copy)]
+#[derive(Clone, Copy, Debug, PartialEq, Eq, Hash, Default)]
 pub struct Channel {
     pub encoding: u8,
     pub first: u8,
     pub second: u8,
 }
 
-#[derive(Clone, Copy)]
-pub enum Corrected {
-    Channel(u8),
-    Refused(Refusal),
-}
-
 impl Channel {
     // What a report names.
-    pub fn channel(self) -> Corrected
-        ensures { said_corrected result ≡ corrected self }
+    pub fn channel(self) -> Result<u8, Refusal>
+        ensures { told result ≡ corrected self }
     {
-        match ChannelEncoding::from_bits(self.encoding) {
-            FoundEncoding::Known(known) => Corrected::Channel(known.corrected(
-                self.first,
-                self.second,
-            )),
-            FoundEncoding::Refused(why) => Corrected::Refused(why),
-        }
+        Ok(ChannelEncoding::try_from(self.encoding)?.corrected(self.first, self.second))
     }
 }
 
@@ -147,12 +124,9 @@ impl Channel {
 fn corrected_legacy(flags: LegacyFlags, channel: u8) -> u8
     ensures { result ≡ corrected_legacy flags.0 channel }
 {
-    let support = flags.support_channel();
-    if support == 1 {
-        return std::num::wrapping_sub_u8(channel, 2);
+    match flags.support_channel() {
+        1 => channel.wrapping_sub(2),
+        2 => channel.wrapping_add(2),
+        _ => channel,
     }
-    if support == 2 {
-        return std::num::wrapping_add_u8(channel, 2);
-    }
-    channel
 }

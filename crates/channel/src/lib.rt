@@ -3,4 +3,4 @@
 
 mod channel;
 
-pub use channel::{Channel, ChannelEncoding, Corrected, FoundEncoding, LegacyFlags};
+pub use channel::{Channel, ChannelEncoding, LegacyFlags};
