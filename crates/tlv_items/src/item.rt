@@ -1,6 +1,6 @@
 // An item by its numbers: the place of its type byte in the tail, its type, and the length of its value,
 // which starts 3 bytes behind the place.
-#[derive(Clone, Copy)]
+#[derive(Clone, Copy, Debug, PartialEq, Eq, Hash, Default)]
 pub struct Item {
     pub at: usize,
     pub tlv_type: u8,
@@ -8,7 +8,7 @@ pub struct Item {
 }
 
 // What stands at a place of the tail.
-#[derive(Clone, Copy)]
+#[derive(Clone, Copy, Debug, PartialEq, Eq, Hash)]
 pub enum Step {
     // An item, and the place behind its value.
     Item(Item, usize),
@@ -19,7 +19,7 @@ pub enum Step {
 }
 
 // How the walk ends.
-#[derive(Clone, Copy)]
+#[derive(Clone, Copy, Debug, PartialEq, Eq, Hash)]
 pub enum End {
     // At the end of the tail, after so many items.
     Whole(usize),
