@@ -1,9 +1,13 @@
--- The words of the record: how their bits are tested, which bits they keep, and what the channel word stands for.
-use Rattle.std.specs.Prelude.{ℕ, ◌%◌, ◌^◌, Bool, not, cond, List, [], ◌∷◌, eqb}
+-- The words of the record: how their bits are tested, which bits they keep, what the channel word stands for, and how each is read and put.
+use Rattle.std.specs.Prelude.{ℕ, ◌%◌, ◌^◌, Bool, not, cond, List, [], ◌∷◌, ◌++◌, eqb}
 use Rattle.std.specs.Int.Bits.{bit_and}
-use Rattle.wire.specs.Numbers.{bit}
-use Rattle.wire.specs.Words.{Run, keep, clear}
+use Rattle.wire.specs.Reading.{Reader, give, ◌>>=◌}
+use Rattle.wire.specs.Numbers.{number, little_bytes, bit}
+use Rattle.wire.specs.Words.{Run, keep, clear, word_by}
+use Rattle.data_path_words.specs.declared.flags.DataPathExtendedFlags.{DataPathExtendedFlags}
 use Rattle.data_path_words.specs.declared.misc.DataPathChannel.{DataPathChannel}
+use Rattle.data_path_words.specs.declared.misc.UnicastOptions.{UnicastOptions}
+use Rattle.data_path_words.specs.declared.misc.DataPathStats.{DataPathStats}
 
 -- whether a word has one of the bits that a mask has
 abbrev pub has_any : ℕ → ℕ → Bool
@@ -24,3 +28,42 @@ channel_of w = cond (bit 0 w) (DataPathChannel.ChannelMap (record { 0 = w % 2 ^ 
 abbrev pub word_of : DataPathChannel → ℕ
 word_of (DataPathChannel.SingleChannel channel) = channel
 word_of (DataPathChannel.ChannelMap map) = map.0
+
+abbrev pub no_channel : DataPathChannel
+no_channel = DataPathChannel.SingleChannel 0
+
+abbrev pub channel_word : Reader DataPathChannel
+channel_word = do
+  word ← number 2
+  give (channel_of word)
+
+abbrev pub channel_bytes : DataPathChannel → List ℕ
+channel_bytes channel = little_bytes 2 (word_of channel)
+
+-- the extended word and the options lose their dropped bits when they are read
+abbrev pub extended_word : Reader DataPathExtendedFlags
+extended_word = do
+  word ← number 2
+  give (record { 0 = word_by extended_kept word })
+
+abbrev pub extended_bytes : DataPathExtendedFlags → List ℕ
+extended_bytes flags = little_bytes 2 flags.0
+
+abbrev pub options_word : Reader UnicastOptions
+options_word = do
+  word ← number 4
+  give (record { 0 = word_by options_kept word })
+
+abbrev pub options_bytes : UnicastOptions → List ℕ
+options_bytes options = little_bytes 4 options.0
+
+abbrev pub stats_words : Reader DataPathStats
+stats_words = do
+  msec ← number 4
+  aw ← number 4
+  pay ← number 4
+  give (record { msec_since_activation = msec; aw_seq_counter = aw; pay_update_coutner = pay })
+
+abbrev pub stats_bytes : DataPathStats → List ℕ
+stats_bytes s =
+    little_bytes 4 s.msec_since_activation ++ little_bytes 4 s.aw_seq_counter ++ little_bytes 4 s.pay_update_coutner

@@ -1,6 +1,8 @@
 ghost use Rattle.std.specs.Prelude.{◌≡◌};
 ghost use Rattle.wire.specs.Words.{word_by};
-ghost use Rattle.data_path_words.specs.Words.{extended_kept, has_any};
+ghost use Rattle.data_path_words.specs.Words.{extended_kept, has_any, extended_word, extended_bytes};
+
+use wire::{Refusal, Wire};
 
 // Whether a word has one of the bits of a mask. A mask without bits finds none.
 pub fn has(word: u16, mask: u16) -> bool
@@ -9,7 +11,7 @@ pub fn has(word: u16, mask: u16) -> bool
     word & mask != 0
 }
 
-#[derive(Clone, Copy)]
+#[derive(Clone, Copy, Debug, PartialEq, Eq, Hash, Default)]
 pub struct DataPathFlags(pub u16);
 
 impl DataPathFlags {
@@ -46,7 +48,7 @@ impl DataPathFlags {
     pub const EXTENDED_FLAGS: u16 = 1 << 15;
 }
 
-#[derive(Clone, Copy)]
+#[derive(Clone, Copy, Debug, PartialEq, Eq, Hash, Default)]
 pub struct DataPathExtendedFlags(pub u16);
 
 impl DataPathExtendedFlags {
@@ -98,5 +100,20 @@ impl DataPathExtendedFlags {
         ensures { result.0 ≡ word_by extended_kept bits }
     {
         DataPathExtendedFlags(bits & DataPathExtendedFlags::KEEP)
+    }
+}
+
+impl Wire for DataPathExtendedFlags {
+    ghost format = { extended_word };
+
+    ghost bytes = { extended_bytes };
+
+    fn read_at(s: &[u8], at: usize) -> Result<(DataPathExtendedFlags, usize), Refusal> {
+        let (bits, at) = u16::read_at(s, at)?;
+        Ok((DataPathExtendedFlags::from_bits(bits), at))
+    }
+
+    fn put_at(self, buf: &mut [u8], at: usize) -> usize {
+        self.0.put_at(buf, at)
     }
 }

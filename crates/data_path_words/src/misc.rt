@@ -1,15 +1,49 @@
 ghost use Rattle.std.specs.Prelude.{◌≡◌};
 ghost use Rattle.wire.specs.Words.{word_by};
-ghost use Rattle.data_path_words.specs.Words.{channel_of, word_of, options_kept};
+ghost use Rattle.data_path_words.specs.Words.{channel_of, word_of, options_kept, channel_word, channel_bytes, options_word, options_bytes, stats_words, stats_bytes, no_channel};
 
-#[derive(Clone, Copy)]
+use wire::{Refusal, Wire, put_slice};
+
+#[derive(Clone, Copy, Debug, PartialEq, Eq, Hash, Default)]
 pub struct DataPathStats {
     pub msec_since_activation: u32,
     pub aw_seq_counter: u32,
     pub pay_update_coutner: u32,
 }
 
-#[derive(Clone, Copy)]
+impl Wire for DataPathStats {
+    ghost format = { stats_words };
+
+    ghost bytes = { stats_bytes };
+
+    fn read_at(s: &[u8], at: usize) -> Result<(DataPathStats, usize), Refusal> {
+        let (msec_since_activation, at) = u32::read_at(s, at)?;
+        let (aw_seq_counter, at) = u32::read_at(s, at)?;
+        let (pay_update_coutner, at) = u32::read_at(s, at)?;
+        let stats = DataPathStats {
+            msec_since_activation,
+            aw_seq_counter,
+            pay_update_coutner,
+        };
+        Ok((stats, at))
+    }
+
+    // The words are put in one piece: all three of them, or none.
+    fn put_at(self, buf: &mut [u8], at: usize) -> usize {
+        put_slice(buf, at, &three_words(self))
+    }
+}
+
+fn three_words(s: DataPathStats) -> [u8; 12]
+    ensures { result ≡ stats_bytes s }
+{
+    let [m0, m1, m2, m3] = s.msec_since_activation.to_le_bytes();
+    let [a0, a1, a2, a3] = s.aw_seq_counter.to_le_bytes();
+    let [p0, p1, p2, p3] = s.pay_update_coutner.to_le_bytes();
+    [m0, m1, m2, m3, a0, a1, a2, a3, p0, p1, p2, p3]
+}
+
+#[derive(Clone, Copy, Debug, PartialEq, Eq, Hash, Default)]
 pub struct ChannelMap(pub u16);
 
 impl ChannelMap {
@@ -22,33 +56,58 @@ impl ChannelMap {
     pub const KEEP: u16 = ChannelMap::CHANNEL_6 | ChannelMap::CHANNEL_44 | ChannelMap::CHANNEL_149;
 }
 
-#[derive(Clone, Copy)]
+#[derive(Clone, Copy, Debug, PartialEq, Eq, Hash)]
 pub enum DataPathChannel {
     SingleChannel(u8),
     ChannelMap(ChannelMap),
 }
 
-impl DataPathChannel {
-    pub fn from_u16(value: u16) -> DataPathChannel
-        ensures { result ≡ channel_of value }
-    {
+impl From<u16> for DataPathChannel {
+    ghost from_gives = { λ word channel. channel ≡ channel_of word };
+
+    fn from(value: u16) -> DataPathChannel {
         if value % 2 == 1 {
             return DataPathChannel::ChannelMap(ChannelMap(value & ChannelMap::KEEP));
         }
         DataPathChannel::SingleChannel((value % 256) as u8)
     }
+}
 
-    pub fn as_u16(self) -> u16
-        ensures { result ≡ word_of self }
-    {
-        match self {
-            DataPathChannel::SingleChannel(channel) => channel as u16,
+impl From<DataPathChannel> for u16 {
+    ghost from_gives = { λ channel word. word ≡ word_of channel };
+
+    fn from(value: DataPathChannel) -> u16 {
+        match value {
+            DataPathChannel::SingleChannel(channel) => u16::from(channel),
             DataPathChannel::ChannelMap(map) => map.0,
         }
     }
 }
 
-#[derive(Clone, Copy)]
+impl Default for DataPathChannel {
+    ghost is_default = { λ channel. channel ≡ no_channel };
+
+    fn default() -> DataPathChannel {
+        DataPathChannel::SingleChannel(0)
+    }
+}
+
+impl Wire for DataPathChannel {
+    ghost format = { channel_word };
+
+    ghost bytes = { channel_bytes };
+
+    fn read_at(s: &[u8], at: usize) -> Result<(DataPathChannel, usize), Refusal> {
+        let (word, at) = u16::read_at(s, at)?;
+        Ok((DataPathChannel::from(word), at))
+    }
+
+    fn put_at(self, buf: &mut [u8], at: usize) -> usize {
+        u16::from(self).put_at(buf, at)
+    }
+}
+
+#[derive(Clone, Copy, Debug, PartialEq, Eq, Hash, Default)]
 pub struct UnicastOptions(pub u32);
 
 impl UnicastOptions {
@@ -134,5 +193,20 @@ impl UnicastOptions {
             | UnicastOptions::START_REMOTE_CAMERA
             | UnicastOptions::STOP_REMOTE_CAMERA;
         UnicastOptions(bits & keep)
+    }
+}
+
+impl Wire for UnicastOptions {
+    ghost format = { options_word };
+
+    ghost bytes = { options_bytes };
+
+    fn read_at(s: &[u8], at: usize) -> Result<(UnicastOptions, usize), Refusal> {
+        let (bits, at) = u32::read_at(s, at)?;
+        Ok((UnicastOptions::from_bits(bits), at))
+    }
+
+    fn put_at(self, buf: &mut [u8], at: usize) -> usize {
+        self.0.put_at(buf, at)
     }
 }
