@@ -1,4 +1,3 @@
-pub mod Once
 pub mod Sizes
 pub mod Gaps
 pub mod Offsets

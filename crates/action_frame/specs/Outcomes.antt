@@ -1,9 +1,9 @@
--- The number, the offset and the values that each answer stands for.
-use Rattle.wire.specs.Outcomes.{Outcome, outcome}
+-- The number, the offset and the values that an answer of the reader stands for.
+use Rattle.std.specs.Prelude.{ℕ, Result}
+use Rattle.wire.specs.declared.refusal.Refusal.{Refusal}
+use Rattle.wire.specs.Outcomes.{Outcome, outcome_of}
 use Rattle.action_frame.specs.declared.AWDLActionFrame.{AWDLActionFrame}
-use Rattle.action_frame.specs.declared.ReadFrame.{ReadFrame}
 use Rattle.action_frame.specs.Frames.{zero_frame}
-use Rattle.action_frame.specs.Said.{said_frame}
 
-abbrev pub outcome_frame : ReadFrame → Outcome AWDLActionFrame
-outcome_frame r = outcome zero_frame 0 (said_frame r)
+abbrev pub outcome_frame : Result (AWDLActionFrame × ℕ) Refusal → Outcome AWDLActionFrame
+outcome_frame r = outcome_of zero_frame 0 r

@@ -11,9 +11,7 @@ returns c =
     put_then
     (put_then
     (put_then
-    (put_then
-    (put_then c.put_u8-behind_first.ensures c.put_u8-behind_second.ensures (omega arith))
-    c.put_u8-behind_subtype.ensures (omega arith))
-    c.put_u8-behind_reserved.ensures (omega arith))
-    c.put_u32-behind_phy.ensures (omega arith))
-    c.put_u32.ensures (omega arith)
+    (put_then (put_then c.put_at-at.ensures c.put_at-at-2.ensures (omega arith)) c.put_at-at-3.ensures (omega arith))
+    c.put_at-at-4.ensures (omega arith))
+    c.put_at-at-5.ensures (omega arith))
+    c.put_at.ensures (omega arith)
