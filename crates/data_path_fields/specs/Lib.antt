@@ -1,4 +1,5 @@
--- Fields: how the fields are read; Said and Outcomes: what each answer of the code says, and the number, offset and values that it stands for.
+-- Optional: a field that may be missing; Fields: how the fields are read; Outcomes: the number, the offset and the values that an
+-- answer stands for.
+pub mod Optional
 pub mod Fields
-pub mod Said
 pub mod Outcomes

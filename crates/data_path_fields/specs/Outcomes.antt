@@ -1,12 +1,10 @@
 -- The number, the offset and the values that each answer stands for.
-use Rattle.std.specs.Prelude.{ℕ}
-use Rattle.wire.specs.Outcomes.{Outcome, outcome}
+use Rattle.std.specs.Prelude.{ℕ, Result}
+use Rattle.wire.specs.declared.refusal.Refusal.{Refusal}
+use Rattle.wire.specs.Outcomes.{Outcome, outcome_of}
 use Rattle.data_path_fields.specs.declared.read.Head.{Head}
-use Rattle.data_path_fields.specs.declared.read.ReadHead.{ReadHead}
 use Rattle.data_path_fields.specs.declared.read.Body.{Body}
-use Rattle.data_path_fields.specs.declared.read.ReadBody.{ReadBody}
 use Rattle.data_path_fields.specs.Fields.{no_country, no_channel, no_infra, no_address, no_unicast, no_extended}
-use Rattle.data_path_fields.specs.Said.{said_head, said_body}
 
 abbrev pub zero_head : Head
 zero_head = record { flags = 0; country = no_country; channel = no_channel }
@@ -19,8 +17,8 @@ zero_body =
       extended = no_extended;
     }
 
-abbrev pub outcome_head : ReadHead → Outcome Head
-outcome_head r = outcome zero_head 0 (said_head r)
+abbrev pub outcome_head : Result (Head × ℕ) Refusal → Outcome Head
+outcome_head = outcome_of zero_head 0
 
-abbrev pub outcome_body : ℕ → ReadBody → Outcome Body
-outcome_body at r = outcome zero_body at (said_body r)
+abbrev pub outcome_body : ℕ → Result (Body × ℕ) Refusal → Outcome Body
+outcome_body at = outcome_of zero_body at

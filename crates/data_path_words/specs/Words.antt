@@ -29,8 +29,8 @@ abbrev pub word_of : DataPathChannel → ℕ
 word_of (DataPathChannel.SingleChannel channel) = channel
 word_of (DataPathChannel.ChannelMap map) = map.0
 
-abbrev pub no_channel : DataPathChannel
-no_channel = DataPathChannel.SingleChannel 0
+abbrev pub zero_channel : DataPathChannel
+zero_channel = DataPathChannel.SingleChannel 0
 
 abbrev pub channel_word : Reader DataPathChannel
 channel_word = do
@@ -39,6 +39,9 @@ channel_word = do
 
 abbrev pub channel_bytes : DataPathChannel → List ℕ
 channel_bytes channel = little_bytes 2 (word_of channel)
+
+abbrev pub zero_extended_flags : DataPathExtendedFlags
+zero_extended_flags = record { 0 = 0 }
 
 -- the extended word and the options lose their dropped bits when they are read
 abbrev pub extended_word : Reader DataPathExtendedFlags
@@ -49,6 +52,9 @@ extended_word = do
 abbrev pub extended_bytes : DataPathExtendedFlags → List ℕ
 extended_bytes flags = little_bytes 2 flags.0
 
+abbrev pub zero_options : UnicastOptions
+zero_options = record { 0 = 0 }
+
 abbrev pub options_word : Reader UnicastOptions
 options_word = do
   word ← number 4
@@ -57,8 +63,11 @@ options_word = do
 abbrev pub options_bytes : UnicastOptions → List ℕ
 options_bytes options = little_bytes 4 options.0
 
-abbrev pub stats_words : Reader DataPathStats
-stats_words = do
+abbrev pub zero_stats : DataPathStats
+zero_stats = record { msec_since_activation = 0; aw_seq_counter = 0; pay_update_coutner = 0 }
+
+abbrev pub stats : Reader DataPathStats
+stats = do
   msec ← number 4
   aw ← number 4
   pay ← number 4

@@ -1,6 +1,6 @@
 ghost use Rattle.std.specs.Prelude.{◌≡◌};
 ghost use Rattle.wire.specs.Words.{word_by};
-ghost use Rattle.data_path_words.specs.Words.{channel_of, word_of, options_kept, channel_word, channel_bytes, options_word, options_bytes, stats_words, stats_bytes, no_channel};
+ghost use Rattle.data_path_words.specs.Words.{channel_of, word_of, options_kept, channel_word, channel_bytes, options_word, options_bytes, stats, stats_bytes, zero_channel};
 
 use wire::{Refusal, Wire, put_slice};
 
@@ -12,7 +12,7 @@ pub struct DataPathStats {
 }
 
 impl Wire for DataPathStats {
-    ghost format = { stats_words };
+    ghost format = { stats };
 
     ghost bytes = { stats_bytes };
 
@@ -85,7 +85,7 @@ impl From<DataPathChannel> for u16 {
 }
 
 impl Default for DataPathChannel {
-    ghost is_default = { λ channel. channel ≡ no_channel };
+    ghost is_default = { λ channel. channel ≡ zero_channel };
 
     fn default() -> DataPathChannel {
         DataPathChannel::SingleChannel(0)
