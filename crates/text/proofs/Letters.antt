@@ -8,7 +8,8 @@ use lib.Dec.{leb, ltb}
 use borrow.Author.Tests.{le-leb, leb-true, ltb-true, ltb-false}
 use Rattle.wire.proofs.Tests.{both}
 use Rattle.text.specs.Text.{hex_digit}
-use Rattle.text.specs.Words.{says, nothing, among, hex_digit_of}
+use Rattle.std.specs.Prelude.{Some, None}
+use Rattle.text.specs.Words.{among, hex_digit_of}
 
 pub among_in : {first last n : ℕ} → first ≤ n → n ≤ last → among first last n ≡ true
 among_in {first} {last} {n} h k = rw (le-leb first n h, le-leb n last k)
@@ -23,36 +24,36 @@ among-out first last n outside = go (leb first n) refl (leb n last) refl
 
 -- a hex digit is of one of three kinds, and any other letter is none
 module _ (letter : ℕ) where
-  pub decimal_digit : 48 ≤ letter → letter ≤ 57 → hex_digit_of letter ≡ says (letter - 48)
+  pub decimal_digit : 48 ≤ letter → letter ≤ 57 → hex_digit_of letter ≡ Some (letter - 48)
   decimal_digit h k = rw (among_in {first = 48} {last = 57} {n = letter} h k)
 
-  pub upper-digit : 65 ≤ letter → letter ≤ 70 → hex_digit_of letter ≡ says (letter - 65 + 10)
+  pub upper-digit : 65 ≤ letter → letter ≤ 70 → hex_digit_of letter ≡ Some (letter - 65 + 10)
   upper-digit h k = rw (among-out 48 57 letter (λ a b. omega arith), among_in {first = 65} {last = 70} {n = letter} h k)
 
-  pub lower-digit : 97 ≤ letter → letter ≤ 102 → hex_digit_of letter ≡ says (letter - 97 + 10)
+  pub lower-digit : 97 ≤ letter → letter ≤ 102 → hex_digit_of letter ≡ Some (letter - 97 + 10)
   lower-digit h k =
       rw (among-out 48 57 letter (λ a b. omega arith), among-out 65 70 letter (λ a b. omega arith), among_in {first = 97} {last = 102} {n = letter} h k)
 
-  pub no_digit : (48 ≤ letter → letter ≤ 57 → ⊥) → (65 ≤ letter → letter ≤ 70 → ⊥) → (97 ≤ letter → letter ≤ 102 → ⊥) → hex_digit_of letter ≡ nothing
+  pub no_digit : (48 ≤ letter → letter ≤ 57 → ⊥) → (65 ≤ letter → letter ≤ 70 → ⊥) → (97 ≤ letter → letter ≤ 102 → ⊥) → hex_digit_of letter ≡ None
   no_digit f g h = rw (among-out 48 57 letter f, among-out 65 70 letter g, among-out 97 102 letter h)
 
-  pub below-sixteen : {d : ℕ} → hex_digit_of letter ≡ says d → d < 16
+  pub below-sixteen : {d : ℕ} → hex_digit_of letter ≡ Some d → d < 16
   below-sixteen {d} e = go (among 48 57 letter) refl (among 65 70 letter) refl (among 97 102 letter) refl e
     where
       last_of : (first last : ℕ) → among first last letter ≡ true → letter ≤ last
       last_of first last p = leb-true letter last (both (leb first letter) (leb letter last) p).1
 
       go : (a : Bool) → among 48 57 letter ≡ a → (b : Bool) → among 65 70 letter ≡ b → (c : Bool) → among 97 102 letter ≡ c
-          → cond a (says (letter - 48)) (cond b (says (letter - 65 + 10)) (cond c (says (letter - 97 + 10)) nothing)) ≡ says d → d < 16
+          → cond a (Some (letter - 48)) (cond b (Some (letter - 65 + 10)) (cond c (Some (letter - 97 + 10)) None)) ≡ Some d → d < 16
       go true p b q c r e = let same : letter - 48 ≡ d = cc in omega (arith, last_of 48 57 p)
       go false p true q c r e = let same : letter - 65 + 10 ≡ d = cc in omega (arith, last_of 65 70 q)
       go false p false q true r e = let same : letter - 97 + 10 ≡ d = cc in omega (arith, last_of 97 102 r)
       go false p false q false r e = absurd (let z : ◌≡◌ {A = ℕ} 0 1 = cc in omega arith)
 
 -- the letter of a hex digit says that digit
-pub digit-again : (d : ℕ) → d < 16 → hex_digit_of (hex_digit d) ≡ says d
+pub digit-again : (d : ℕ) → d < 16 → hex_digit_of (hex_digit d) ≡ Some d
 digit-again d h = go (ltb d 10) refl
   where
-    go : (b : Bool) → ltb d 10 ≡ b → hex_digit_of (cond b (48 + d) (65 + (d - 10))) ≡ says d
-    go true e = let few = ltb-true d 10 e in decimal_digit (48 + d) (omega arith) (omega arith) ∙ ap says (omega arith)
-    go false e = let more = ltb-false d 10 e in upper-digit (65 + (d - 10)) (omega arith) (omega arith) ∙ ap says (omega arith)
+    go : (b : Bool) → ltb d 10 ≡ b → hex_digit_of (cond b (48 + d) (65 + (d - 10))) ≡ Some d
+    go true e = let few = ltb-true d 10 e in decimal_digit (48 + d) (omega arith) (omega arith) ∙ ap Some (omega arith)
+    go false e = let more = ltb-false d 10 e in upper-digit (65 + (d - 10)) (omega arith) (omega arith) ∙ ap Some (omega arith)

@@ -8,38 +8,39 @@ use mathlib.Core.List.{List, [], ◌∷◌}
 use lib.Dec.{ltb}
 use lib.ListN.{length}
 use borrow.Author.Tests.{ltb-true, ltb-false, le-ltb}
-use Rattle.text.specs.Words.{Said, says, nothing, ◌>>=◌, provided, digit_of, digits_of, in64_bits, decimal_of}
+use Rattle.std.specs.Prelude.{Option, Some, None}
+use Rattle.text.specs.Words.{◌>>=◌, provided, digit_of, digits_of, in64_bits, decimal_of}
 use Rattle.text.proofs.Letters.{among_in}
 
 -- a word of some digits and not too many
 pub few-digits : (word : List ℕ) → 1 ≤ length word → length word ≤ 20 → decimal_of word ≡ in64_bits (digits_of 0 word)
 few-digits word h k = rw (among_in {first = 1} {last = 20} {n = length word} h k)
 
-too_large : (rest : List ℕ) (n : ℕ) → 2 ^ 64 ≤ n → in64_bits (digits_of n rest) ≡ nothing
+too_large : (rest : List ℕ) (n : ℕ) → 2 ^ 64 ≤ n → in64_bits (digits_of n rest) ≡ None
 unfolding digits_of
 too_large [] n h = rw (le-ltb n (2 ^ 64) h)
 too_large (letter ∷ rest) n h = go (digit_of letter) (λ d. too_large rest (n * 10 + d) (omega arith))
   where
-    go : (digit : Said ℕ) → ((d : ℕ) → in64_bits (digits_of (n * 10 + d) rest) ≡ nothing) → in64_bits (digit >>= λ d. digits_of (n * 10 + d) rest) ≡ nothing
-    go (says d) larger = larger d
-    go nothing larger = refl
+    go : (digit : Option ℕ) → ((d : ℕ) → in64_bits (digits_of (n * 10 + d) rest) ≡ None) → in64_bits (digit >>= λ d. digits_of (n * 10 + d) rest) ≡ None
+    go (Some d) larger = larger d
+    go None larger = refl
 
 pub digit_by_digit : (n letter : ℕ) (rest : List ℕ) → in64_bits (digits_of n (letter ∷ rest)) ≡ (in64_bits (digits_of n (letter ∷ [])) >>= λ m. in64_bits (digits_of m rest))
 unfolding digits_of
 digit_by_digit n letter rest = go (digit_of letter)
   where
-    fit : (m : ℕ) (b : Bool) → ltb m (2 ^ 64) ≡ b → in64_bits (digits_of m rest) ≡ (in64_bits (says m) >>= λ m. in64_bits (digits_of m rest))
+    fit : (m : ℕ) (b : Bool) → ltb m (2 ^ 64) ≡ b → in64_bits (digits_of m rest) ≡ (in64_bits (Some m) >>= λ m. in64_bits (digits_of m rest))
     fit m true e = rw e
     fit m false e = rw e (too_large rest m (ltb-false m (2 ^ 64) e))
 
-    go : (digit : Said ℕ) → in64_bits (digit >>= λ d. digits_of (n * 10 + d) rest) ≡ (in64_bits (digit >>= λ d. says (n * 10 + d)) >>= λ m. in64_bits (digits_of m rest))
-    go (says d) = fit (n * 10 + d) (ltb (n * 10 + d) (2 ^ 64)) refl
-    go nothing = refl
+    go : (digit : Option ℕ) → in64_bits (digit >>= λ d. digits_of (n * 10 + d) rest) ≡ (in64_bits (digit >>= λ d. Some (n * 10 + d)) >>= λ m. in64_bits (digits_of m rest))
+    go (Some d) = fit (n * 10 + d) (ltb (n * 10 + d) (2 ^ 64)) refl
+    go None = refl
 
-pub in64-below : (said : Said ℕ) {m : ℕ} → in64_bits said ≡ says m → m < 2 ^ 64
-in64-below (says n) {m} e = go (ltb n (2 ^ 64)) refl e
+pub in64-below : (said : Option ℕ) {m : ℕ} → in64_bits said ≡ Some m → m < 2 ^ 64
+in64-below (Some n) {m} e = go (ltb n (2 ^ 64)) refl e
   where
-    go : (b : Bool) → ltb n (2 ^ 64) ≡ b → provided b n ≡ says m → m < 2 ^ 64
+    go : (b : Bool) → ltb n (2 ^ 64) ≡ b → provided b n ≡ Some m → m < 2 ^ 64
     go true f e = let same : n ≡ m = cc in omega (arith, ltb-true n (2 ^ 64) f)
     go false f e = absurd (let z : ◌≡◌ {A = ℕ} 0 1 = cc in omega arith)
-in64-below nothing e = absurd (let z : ◌≡◌ {A = ℕ} 0 1 = cc in omega arith)
+in64-below None e = absurd (let z : ◌≡◌ {A = ℕ} 0 1 = cc in omega arith)

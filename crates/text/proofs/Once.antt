@@ -1,24 +1,19 @@
--- Only one answer meets each statement: what `decimal_of` says can be turned back into the answer, the statements of bytes that are put
--- are equations, and a test of which both directions are known is true or false by them.
+-- Only one answer meets each statement: the statements of what a word says and of bytes that are put are equations, and a test of which
+-- both directions are known is true or false by them.
 -- Assumes nothing.
 use Prim.Native.Nat.{ℕ}
 use mathlib.Core.Path.{◌≡◌, refl, sym, ◌∙◌}
 use mathlib.Core.Bool.{Bool, true, false}
 use mathlib.Core.List.{List}
-use Rattle.wire.proofs.Once.{only_one}
-use Rattle.text.specs.declared.decimal.Decimal.{Decimal}
-use Rattle.text.specs.declared.hex.HexBytes.{HexBytes}
-use Rattle.text.specs.Words.{Said, says, nothing}
-use Rattle.text.specs.Said.{said_decimal}
+use Rattle.std.specs.Prelude.{Option, Result}
+use Rattle.text.specs.declared.hex.HexError.{HexError}
 use Rattle.text.specs.Into.{PutSaid, TellsSame}
 
-pub once_decimal : {m : Said ℕ} {a b : Decimal} → said_decimal a ≡ m → said_decimal b ≡ m → a ≡ b
-once_decimal =
-    only_one said_decimal (elim [ says n ↦ Decimal.Number n | nothing ↦ Decimal.No ])
-    (elim [ Decimal.Number n ↦ refl | Decimal.No ↦ refl ])
+pub once_decimal : {m a b : Option ℕ} → a ≡ m → b ≡ m → a ≡ b
+once_decimal p q = p ∙ sym q
 
 -- one answer and one buffer
-pub once_put_said : {s : List ℕ} {at : ℕ} {said : Said (List ℕ)} {a b : HexBytes} {t u : List ℕ} → PutSaid s at said a t → PutSaid s at said b u → (a ≡ b) × (t ≡ u)
+pub once_put_said : {s : List ℕ} {at : ℕ} {said : Option (List ℕ)} {a b : Result ℕ HexError} {t u : List ℕ} → PutSaid s at said a t → PutSaid s at said b u → (a ≡ b) × (t ≡ u)
 once_put_said p q = (p.place ∙ sym q.place, p.buffer ∙ sym q.buffer)
 
 -- a test that tells lists apart has one answer for each two of them

@@ -6,22 +6,23 @@ use Rattle.text.specs.Words.{digits_of}
 use Rattle.text.proofs.Numerals.{digit_by_digit, in64-below}
 use Rattle.text.proofs.decimal.decimal_of.Goals as goal
 
-pub returns-in_default : goal.returns-in_default
-returns-in_default c =
+pub returns-in_err-n : goal.returns-in_err-n
+returns-in_err-n c =
     let word = c.args.word.now in
-    let i = c.loop-i.i in
-    sym (c.loop-i.invariant.2 ∙ rw (drop-cons word i 0 (omega arith), digit_by_digit c.loop-i.n (get_or word i 0) (drop (suc i) word), ← c.in_default.ensures))
+    let i = c.loop-letter.letter-index in
+    c.from_residual.ensures
+    ∙ sym (c.loop-letter.invariant.1 ∙ rw (drop-cons word i 0 (omega arith), digit_by_digit c.loop-letter.n (get_or word i 0) (drop (suc i) word), ← c.in_err-n.ensures))
 
-pub loop-i-preserved : goal.loop-i-preserved
-loop-i-preserved c =
+pub loop-letter-preserved : goal.loop-letter-preserved
+loop-letter-preserved c =
     let word = c.args.word.now in
-    let i = c.loop-i.i in (
-      omega arith,
-      in64-below (digits_of c.loop-i.n (get_or word i 0 ∷ [])) (sym c.in-Number.ensures),
-      c.loop-i.invariant.2 ∙ rw (add-one i, drop-cons word i 0 (omega arith), digit_by_digit c.loop-i.n (get_or word i 0) (drop (suc i) word), ← c.in-Number.ensures),
+    let i = c.loop-letter.letter-index in (
+      in64-below (digits_of c.loop-letter.n (get_or word i 0 ∷ [])) (sym c.in_ok-n.ensures),
+      c.loop-letter.invariant.1 ∙ rw (add-one i, drop-cons word i 0 (omega arith), digit_by_digit c.loop-letter.n (get_or word i 0) (drop (suc i) word), ← c.in_ok-n.ensures),
     )
 
 pub returns : goal.returns
 unfolding digits_of
 returns c =
-    rw (c.loop-i.invariant.2, drop_of_length-le c.args.word.now {i = c.loop-i.i} (omega arith), lt-ltb c.loop-i.n (2 ^ 64) c.loop-i.invariant.1)
+    sym (c.loop-letter.invariant.1
+    ∙ rw (drop_of_length-le c.args.word.now {i = c.loop-letter.letter-index} (omega arith), lt-ltb c.loop-letter.n (2 ^ 64) c.loop-letter.invariant.0))

@@ -1,19 +1,19 @@
--- The number's digits are put once all are there.
+-- The number's digits are put once all are there, and twenty places are enough.
 -- Assumes nothing.
 use Rattle.std.proofs.Common.{refl, arith}
 use Rattle.text.proofs.Digits.{some-digit, gather_none, gather-more, gather-all}
 use Rattle.text.proofs.decimal.put_decimal.Goals as goal
 
-pub loop-rest-init : goal.loop-rest-init
-loop-rest-init c = gather_none c.args.n _ (omega arith) refl
+pub loop-first-init : goal.loop-first-init
+loop-first-init c = (gather_none c.args.n _ (omega arith) refl, refl)
 
-pub overflow_sub-first : goal.overflow_sub-first
-overflow_sub-first c = omega (arith, some-digit c.loop-rest.rest)
+pub loop-first-preserved : goal.loop-first-preserved
+loop-first-preserved c = (gather-more c.loop-first.invariant.0 c.digit.ensures (omega arith), c.loop-first.invariant.1)
 
-pub loop-rest-preserved : goal.loop-rest-preserved
-loop-rest-preserved c = gather-more c.loop-rest.invariant c.digit.ensures (omega arith)
+pub returns-then-rest-eq0 : goal.returns-then-rest-eq0
+returns-then-rest-eq0 c =
+    let digits = gather-all c.loop-first.invariant.0 c.digit.ensures (omega arith) in
+    rw (digits, c.loop-first.invariant.1) at c.put_slice.ensures
 
-pub returns : goal.returns
-returns c =
-    let digits = gather-all c.loop-rest.invariant c.digit.ensures (omega arith) in
-    rw digits at c.put_slice.ensures
+pub unreachable-requires : goal.unreachable-requires
+unreachable-requires c = omega (arith, some-digit c.loop-first.rest)

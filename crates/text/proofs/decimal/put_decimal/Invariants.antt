@@ -1,10 +1,8 @@
--- Each turn gathers one digit more.
+-- Each turn gathers one digit more, and none is put yet.
 -- Assumes nothing.
+use Rattle.std.proofs.Common.{◌≡◌}
 use Rattle.text.proofs.Digits.{Gathered}
 use Rattle.text.proofs.decimal.put_decimal.Given as goal
 
-abbrev pub invariant-loop-rest : goal.invariant-loop-rest
-invariant-loop-rest l = Gathered l.n l.digits l.first l.rest
-
-abbrev pub decreases-loop-rest : goal.decreases-loop-rest
-decreases-loop-rest l = l.rest
+abbrev pub invariant-loop-first : goal.invariant-loop-first
+invariant-loop-first l = Gathered l.n l.digits l.first l.rest × (l.buf ≡ l.fn.buf)

@@ -1,29 +1,36 @@
--- Each turn stores the byte of one pair more.
+-- Each turn puts the byte of one pair more.
 -- Assumes nothing.
-use Rattle.std.proofs.Common.{◌+◌, ◌/◌, length, get_or, sym, refl, arith}
-use borrow.Author.Tests.{leb-true, leb-false}
-use Rattle.text.specs.Words.{hex_of}
-use Rattle.text.proofs.Halves.{pair-at, bytes_in, is_said}
-use Rattle.text.proofs.Begun.{begin, said-past, go_on}
+use Rattle.std.proofs.Common.{◌/◌, length, sym, ◌∙◌, arith}
+use Rattle.std.specs.Slice.Iter.{chunks_exact_rest}
+use Rattle.text.proofs.Pasting.{no-room, some-room, said-past, pasting-none, first-of, pasting-more, pasting-all}
 use Rattle.text.proofs.hex.hex_into.Goals as goal
 
-pub returns-then-not-has_room : goal.returns-then-not-has_room
-returns-then-not-has_room c =
+pub returns-then-is_err : goal.returns-then-is_err
+returns-then-is_err c =
     let word = c.args.word.now in
-    let w = is_said word c.if-not-is_hex.ensures refl in
-    let full = leb-false (c.args.at + length word / 2) (length c.args.buf.now) (sym c.if-not-has_room.ensures) in
-    rw w.said (said-past c.args.buf.now c.args.at (bytes_in (hex_of word)) refl (omega arith))
+    let past = no-room (length word / 2) c.args.buf.now c.args.at c.field_at.result c.field_at.ensures c.if-is_err.ensures.value in
+    said-past word c.args.buf.now c.args.at c.if-not-is_hex.ensures past
 
-pub loop-i-init : goal.loop-i-init
-loop-i-init c =
+pub loop-pair-init : goal.loop-pair-init
+loop-pair-init c =
     let word = c.args.word.now in
-    let w = is_said word c.if-not-is_hex.ensures refl in
-    let room = leb-true (c.args.at + length word / 2) (length c.args.buf.now) (sym c.if-not-has_room.ensures) in
-    (w, begin c.args.buf.now c.args.at (bytes_in (hex_of word)) (omega arith) (omega arith))
+    let room = some-room (length word / 2) c.args.buf.now c.args.at c.field_at.result c.field_at.ensures c.if-is_err.ensures.value in
+    let items = c.chunks_exact-pair-items.ensures in
+    rw c.into_iter-pair-iterator.ensures.into_iter_gives
+    (items.size, rw items.rest (pasting-none word c.args.buf.now c.args.at c.if-not-is_hex.ensures room))
 
-pub loop-i-preserved : goal.loop-i-preserved
-loop-i-preserved c =
-    let word = c.args.word.now in
-    let held = c.loop-i.invariant in
-    let pair = pair-at word held.0.said c.loop-i.i (omega arith) in
-    (held.0, go_on held.1 (omega arith) (c.byte.ensures (get_or (bytes_in (hex_of word)) c.loop-i.i 0) pair) refl refl)
+pub unwrap-byte-requires : goal.unwrap-byte-requires
+unwrap-byte-requires c =
+    let steps = c.in-Some.ensures.steps in
+    let h = first-of c.loop-pair.invariant.1 c.in-Some.pair.now (chunks_exact_rest c.next.new.self) steps.1.0 (steps.1.1 ∙ c.loop-pair.invariant.0) in
+    rw (c.byte_of.ensures, h.first)
+
+pub loop-pair-preserved : goal.loop-pair-preserved
+loop-pair-preserved c =
+    let steps = c.in-Some.ensures.steps in (
+      steps.0 ∙ c.loop-pair.invariant.0,
+      pasting-more c.loop-pair.invariant.1 c.in-Some.pair.now (chunks_exact_rest c.next.new.self) steps.1.0 (steps.1.1 ∙ c.loop-pair.invariant.0) (sym c.byte_of.ensures ∙ c.unwrap-byte.ensures) c.put_slice-place.ensures,
+    )
+
+pub returns : goal.returns
+returns c = pasting-all c.loop-pair.invariant.1 (omega (arith, c.in-None.ensures.steps.1.0))

@@ -1,13 +1,9 @@
--- The word is hex, and after i turns i of its bytes stand in the buffer.
+-- The bytes of the pairs so far stand in the buffer, and what is left of the word is hex too.
 -- Assumes nothing.
-use Rattle.std.proofs.Common.{◌-◌}
-use Rattle.text.specs.Words.{hex_of}
-use Rattle.text.proofs.Halves.{bytes_in, HexWord}
-use Rattle.text.proofs.Begun.{Begun}
+use Rattle.std.proofs.Common.{◌≡◌}
+use Rattle.std.specs.Slice.Iter.{chunks_exact_rest, chunks_exact_size}
+use Rattle.text.proofs.Pasting.{Pasting}
 use Rattle.text.proofs.hex.hex_into.Given as goal
 
-abbrev pub invariant-loop-i : goal.invariant-loop-i
-invariant-loop-i l = HexWord l.word × Begun l.fn.buf l.at (bytes_in (hex_of l.word)) l.n l.i l.buf
-
-abbrev pub decreases-loop-i : goal.decreases-loop-i
-decreases-loop-i l = l.n - l.i
+abbrev pub invariant-loop-pair : goal.invariant-loop-pair
+invariant-loop-pair l = (chunks_exact_size l.pair-iterator ≡ 2) × Pasting l.word (chunks_exact_rest l.pair-iterator) l.fn.buf l.at l.place l.buf

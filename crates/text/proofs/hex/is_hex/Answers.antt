@@ -1,29 +1,27 @@
--- A pair that is a byte is passed, and one that is none ends it; so does an odd number of letters.
+-- A pair that is a byte is passed, and one that is none ends it; so does a letter that is left over.
 -- Assumes nothing.
-use Rattle.std.proofs.Common.{◌+◌, get_or, drop, sym, ◌∙◌, arith, drop_of_length-le}
-use Rattle.text.specs.Words.{hex_of}
-use Rattle.text.proofs.Halves.{odd-none, two-more, pair-more, pair-none}
+use Rattle.std.proofs.Common.{length, sym, ◌∙◌, ap, arith, length-append}
+use Rattle.std.specs.Slice.Iter.{chunks_exact_rest}
+use Rattle.text.proofs.Halves.{none-in-front, pair-in-front, left-over}
 use Rattle.text.proofs.hex.is_hex.Goals as goal
 
-pub returns-then-word-eq1 : goal.returns-then-word-eq1
-returns-then-word-eq1 c = rw (odd-none c.args.word.now c.if-word-eq1.true)
+pub returns-then-is_none : goal.returns-then-is_none
+returns-then-is_none c =
+    let steps = c.in-Some.ensures.steps in
+    let two = steps.1.1 ∙ c.loop-pair.invariant.0 in
+    let none = none-in-front c.in-Some.pair.now (chunks_exact_rest c.next.new.self) two c.byte_of.ensures c.if-is_none.ensures in
+    sym (c.loop-pair.invariant.2 ∙ rw (steps.1.0, none))
 
-pub returns-in_default : goal.returns-in_default
-returns-in_default c =
-    let word = c.args.word.now in
-    let i = c.loop-i.i in
-    sym (c.loop-i.invariant.3 ∙ rw (two-more word i (omega arith), pair-none (get_or word i 0) (get_or word (i + 1) 0) (drop (i + 2) word) (sym c.in_default.ensures)))
-
-pub loop-i-preserved : goal.loop-i-preserved
-loop-i-preserved c =
-    let word = c.args.word.now in
-    let i = c.loop-i.i in (
-      omega arith,
-      omega arith,
-      omega arith,
-      c.loop-i.invariant.3 ∙ rw (two-more word i (omega arith)) (pair-more (get_or word i 0) (get_or word (i + 1) 0) (drop (i + 2) word) (sym c.in-Is.ensures)),
-    )
+pub loop-pair-preserved : goal.loop-pair-preserved
+loop-pair-preserved c =
+    let steps = c.in-Some.ensures.steps in
+    let two = steps.1.1 ∙ c.loop-pair.invariant.0 in
+    let some = pair-in-front c.in-Some.pair.now (chunks_exact_rest c.next.new.self) two c.byte_of.ensures c.if-is_none.ensures in
+    let size = ap length steps.1.0 ∙ length-append c.in-Some.pair.now (chunks_exact_rest c.next.new.self) in
+    (steps.0 ∙ c.loop-pair.invariant.0, omega arith, c.loop-pair.invariant.2 ∙ rw steps.1.0 some)
 
 pub returns : goal.returns
-unfolding hex_of
-returns c = rw (c.loop-i.invariant.3, drop_of_length-le c.args.word.now {i = c.loop-i.i} (omega arith))
+returns c =
+    let few = c.in-None.ensures.steps.1.0 in
+    let left = left-over (chunks_exact_rest c.loop-pair.pair-iterator) (omega arith) in
+    rw (← c.loop-pair.invariant.1) left ∙ sym c.loop-pair.invariant.2

@@ -1,12 +1,10 @@
 -- Pair after pair is passed, and the word is hex where what is left of it is.
 -- Assumes nothing.
-use Rattle.std.proofs.Common.{length, ◌-◌, ◌%◌, ◌≡◌, ◌≤◌, drop}
+use Rattle.std.proofs.Common.{length, ◌%◌, ◌≡◌}
+use Rattle.std.specs.Slice.Iter.{chunks_exact_rest, chunks_exact_size}
 use Rattle.text.specs.Words.{meant, hex_of}
 use Rattle.text.proofs.hex.is_hex.Given as goal
 
-abbrev pub invariant-loop-i : goal.invariant-loop-i
-invariant-loop-i l =
-    (l.i ≤ length l.word) × (length l.word % 2 ≡ 0) × (l.i % 2 ≡ 0) × (meant (hex_of l.word) ≡ meant (hex_of (drop l.i l.word)))
-
-abbrev pub decreases-loop-i : goal.decreases-loop-i
-decreases-loop-i l = length l.word - l.i
+abbrev pub invariant-loop-pair : goal.invariant-loop-pair
+invariant-loop-pair l =
+    (chunks_exact_size l.pair-iterator ≡ 2) × (length (chunks_exact_rest l.pair-iterator) % 2 ≡ length l.word % 2) × (meant (hex_of l.word) ≡ meant (hex_of (chunks_exact_rest l.pair-iterator)))
