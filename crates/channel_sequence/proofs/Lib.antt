@@ -1,7 +1,6 @@
+pub mod Tests
 pub mod Entries
 pub mod KeptEntries
-pub mod Once
-pub mod Beside
 pub mod RoundTrip
 pub mod ReadConsistent
 pub mod Laid

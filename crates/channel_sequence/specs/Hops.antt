@@ -1,6 +1,7 @@
 -- The hops of a sequence: its entries, one by one.
-use Rattle.std.specs.Prelude.{ℕ, ◌*◌, cond, List, leb, get_or, take, drop}
-use Rattle.wire.specs.Answer.{Answer, answer, ◌>>=◌}
+use Rattle.std.specs.Prelude.{ℕ, ◌*◌, cond, List, leb, get_or, take, drop, Option, Some, None, Result, Ok, Err}
+use Rattle.wire.specs.declared.refusal.Refusal.{Refusal}
+use Rattle.wire.specs.Answer.{Answer, answer, refusal, ◌>>=◌}
 use Rattle.channel.specs.declared.channel.Channel.{Channel}
 use Rattle.channel.specs.declared.channel.ChannelEncoding.{ChannelEncoding}
 use Rattle.channel_sequence.specs.declared.channel_sequence.ChannelSequence.{ChannelSequence}
@@ -26,3 +27,9 @@ abbrev pub hop_at : ChannelSequence → ℕ → Answer Hop
 hop_at q n = do
   encoding ← encoding_of q.encoding
   answer (cond (leb 16 n) nothing (hop (entry_channel q.encoding (entry_bytes encoding n q.bytes))))
+
+-- what an answer of the code says
+abbrev pub said_entry : Result (Option Channel) Refusal → Answer Hop
+said_entry (Ok (Some channel)) = answer (hop channel)
+said_entry (Ok None) = answer nothing
+said_entry (Err why) = refusal why

@@ -4,6 +4,4 @@
 mod channel_sequence;
 mod conversion;
 
-pub use channel_sequence::{
-    ChannelSequence, Consistency, Entry, MadeSequence, Making, ReadSequence,
-};
+pub use channel_sequence::ChannelSequence;

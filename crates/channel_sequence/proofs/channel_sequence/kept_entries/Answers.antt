@@ -1,6 +1,6 @@
 -- A turn keeps one entry, and behind the last there is none.
 -- Assumes nothing.
-use Rattle.std.proofs.Common.{sym, get_or, drop, ◌+◌, length-set, arith}
+use Rattle.std.proofs.Common.{◌≡◌, sym, get_or, drop, ◌+◌, ◌*◌, length-set, arith}
 use lib.ListN.{drop_of_length-le}
 use lib.Seq.{take_all}
 use mathlib.Core.List.{append-nil}
@@ -13,14 +13,14 @@ pub loop-i-preserved : goal.loop-i-preserved
 loop-i-preserved c =
     let part = c.args.part.now in
     let bytes = c.loop-i.bytes in
-    let i = c.loop-i.i in (
+    let i = 2 * c.loop-i.i in
+    let next : 2 * (c.loop-i.i + 1) ≡ i + 2 = omega arith in (
       simp length-set (omega arith),
-      omega arith,
-      omega arith,
       rw (
-        c.from_bits-flags.ensures,
+        next,
+        c.from_bits.ensures,
         entry-step bytes i (kept_flags (get_or part i 0)) (get_or part (i + 1) 0) (kept_entries (drop (i + 2) part)) (omega arith),
-        ← c.loop-i.invariant.3,
+        ← c.loop-i.invariant.1,
         two_at part i (omega arith),
       ),
     )
@@ -29,5 +29,5 @@ pub returns : goal.returns
 returns c =
     let part = c.args.part.now in
     let bytes = c.loop-i.bytes in
-    let i = c.loop-i.i in
-    rw (← c.loop-i.invariant.3, drop_of_length-le part {i = i} (omega arith), take_all i bytes (omega arith)) (sym (append-nil bytes))
+    let i = 2 * c.loop-i.i in
+    rw (← c.loop-i.invariant.1, drop_of_length-le part {i = i} (omega arith), take_all i bytes (omega arith)) (sym (append-nil bytes))
