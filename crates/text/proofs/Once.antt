@@ -5,7 +5,10 @@ use Prim.Native.Nat.{ℕ}
 use mathlib.Core.Path.{◌≡◌, refl, sym, ◌∙◌}
 use mathlib.Core.Bool.{Bool, true, false}
 use mathlib.Core.List.{List}
+use lib.Dec.{eqb}
 use Rattle.std.specs.Prelude.{Option, Result}
+use Rattle.std.specs.Cmp.Lexicographic.{pointwise}
+use Rattle.std.proofs.lemmas.Slice.Eq.{bytes_eq-Decides}
 use Rattle.text.specs.declared.hex.HexError.{HexError}
 use Rattle.text.specs.Into.{PutSaid, TellsSame}
 
@@ -21,3 +24,7 @@ pub once_same : {xs ys : List ℕ} (a b : Bool) → TellsSame xs ys a → TellsS
 once_same true b p q = sym (q.always (p.only refl))
 once_same false true p q = p.always (q.only refl)
 once_same false false p q = refl
+
+-- and the library's equality of slices, by which words are told apart, is such a test
+pub std_same : (xs ys : List ℕ) → TellsSame xs ys (pointwise eqb xs ys)
+std_same xs ys = let d = bytes_eq-Decides xs ys in record { only = d.0; always = d.1 }

@@ -18,7 +18,7 @@ pub record PutSaid (s : List ℕ) (at : ℕ) (said : Option (List ℕ)) (r : Res
   pub place : r ≡ behind_said s at said
   pub buffer : after ≡ putting_said s at said
 
--- a test that is true of a list and itself, and of no two others
+-- a test that is true of a list and itself, and of no two others; the equality of slices is one
 pub record TellsSame (xs ys : List ℕ) (r : Bool) : Type 0 where
   pub only : r ≡ true → xs ≡ ys
   pub always : xs ≡ ys → r ≡ true
