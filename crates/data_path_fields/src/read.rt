@@ -19,6 +19,7 @@ pub struct Head {
     pub channel: Optional<DataPathChannel>,
 }
 
+#[tactic(auto, using(data_path_words::proofs::OneBit::announcing))]
 pub fn read_head(s: &[u8]) -> Result<(Head, usize), Refusal>
     ensures { said result ≡ D.head s.now 0 }
 {
@@ -43,6 +44,7 @@ pub struct Addresses {
     pub awdl: Optional<MACAddress>,
 }
 
+#[tactic(auto, using(data_path_words::proofs::OneBit::announcing))]
 fn read_addresses(s: &[u8], at: usize, flags: u16) -> Result<(Addresses, usize), Refusal>
     ensures { said result ≡ D.addresses flags s.now at }
 {
@@ -99,6 +101,7 @@ pub struct Extended {
     pub stats: Optional<DataPathStats>,
 }
 
+#[tactic(auto, using(data_path_words::proofs::OneBit::announcing))]
 fn announced(
     s: &[u8],
     at: usize,
@@ -143,6 +146,7 @@ pub struct Body {
     pub extended: Extended,
 }
 
+#[tactic(auto, using(data_path_words::proofs::OneBit::announcing))]
 pub fn read_body(s: &[u8], at: usize, flags: u16) -> Result<(Body, usize), Refusal>
     ensures { said result ≡ D.body flags s.now at }
 {
