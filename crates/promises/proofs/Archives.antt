@@ -124,8 +124,8 @@ frames-run =
     }
 
 -- a record with these flags, country and channel, and nothing else
-pub holding-ranges : (flags : ℕ) (country : CountryCode) (channel : OptionalChannel) → flags < 256 ^ 2
-    → country.first < 256 → country.second < 256 → country.pad < 256 → word_of channel.channel < 256 ^ 2 → Ranges (holding flags country channel)
+pub holding-ranges : (flags : ℕ) (country : Optional CountryCode) (channel : Optional DataPathChannel) → flags < 256 ^ 2
+    → country.value.first < 256 → country.value.second < 256 → country.value.pad < 256 → word_of channel.value < 256 ^ 2 → Ranges (holding flags country channel)
 holding-ranges flags country channel flags-fit first second pad word =
     let zeros = octets-little 6 0 in
     record {
@@ -152,7 +152,7 @@ holding-ranges flags country channel flags-fit first second pad word =
 pub unchecked-run : RunTogether unchecked_data_paths
 unfolding record_bytes sum consistent
 unchecked-run =
-    let fits : (flags : ℕ) (channel : OptionalChannel) → flags < 256 ^ 2 → word_of channel.channel < 256 ^ 2 → Ranges (holding flags no_country channel) =
+    let fits : (flags : ℕ) (channel : Optional DataPathChannel) → flags < 256 ^ 2 → word_of channel.value < 256 ^ 2 → Ranges (holding flags no_country channel) =
     λ flags channel f w. holding-ranges flags no_country channel f (lit< tt) (lit< tt) (lit< tt) w in
     record {
       first = holding 0x0200 no_country no_channel;

@@ -13,7 +13,7 @@ use borrow.Author.Tests.{le-leb, lt-leb}
 use Rattle.wire.specs.declared.refusal.Refusal.TheVariants.{Inconsistent}
 use Rattle.wire.specs.Reading.{Reading, read, refused}
 use Rattle.wire.specs.Answer.{Answer, answer, refusal, ◌>>=◌}
-use Rattle.wire.specs.Outcomes.{outcome, result}
+use Rattle.wire.specs.Outcomes.{outcome, reply}
 use Rattle.wire.specs.Numbers.{AllInWidth, one}
 use Rattle.channel.specs.Channels.{corrected}
 use Rattle.channel_sequence.specs.declared.channel_sequence.ChannelSequence.{ChannelSequence}
@@ -122,21 +122,25 @@ data-path-back ns e f = same ∙ listed 44 ns e
         (flag-back (get_or ns 36 0) (below 36)) i ∷ get_or ns 37 0 ∷ (flag-back (get_or ns 38 0) (below 38)) i ∷ get_or ns 39 0 ∷
         (flag-back (get_or ns 40 0) (below 40)) i ∷ get_or ns 41 0 ∷ get_or ns 42 0 ∷ get_or ns 43 0 ∷ []
 
+-- a field that may be absent, by its flag and its value
+optional-there : {A : Type 0} (o : Optional A) → record { present = is_there (flag_number o.present); value = o.value } ≡ o
+optional-there o = λ i. record { present = (flag-there o.present) i; value = o.value }
+
 data-path-there : (r : DataPathStateTLV) → data_path_of (data_path_numbers r) ≡ r
 data-path-there r =
     λ i. record {
       flags = r.flags;
-      country_code = record { present = (flag-there r.country_code.present) i; first = r.country_code.first; second = r.country_code.second; pad = r.country_code.pad };
-      channel_map = record { present = (flag-there r.channel_map.present) i; channel = (channel-there r.channel_map.channel) i };
-      infra_bssid_channel = record { present = (flag-there r.infra_bssid_channel.present) i; bssid = r.infra_bssid_channel.bssid; channel = r.infra_bssid_channel.channel };
-      infra_address = record { present = (flag-there r.infra_address.present) i; address = r.infra_address.address };
-      awdl_address = record { present = (flag-there r.awdl_address.present) i; address = r.awdl_address.address };
-      unicast_options = record { present = (flag-there r.unicast_options.present) i; options = r.unicast_options.options };
-      unicast_options_ext = record { present = (flag-there r.unicast_options_ext.present) i; word = r.unicast_options_ext.word };
-      extended_flags = record { present = (flag-there r.extended_flags.present) i; flags = r.extended_flags.flags };
-      rlfc = record { present = (flag-there r.rlfc.present) i; word = r.rlfc.word };
-      log_trigger_id = record { present = (flag-there r.log_trigger_id.present) i; id = r.log_trigger_id.id };
-      stats = record { present = (flag-there r.stats.present) i; stats = r.stats.stats };
+      country_code = (optional-there r.country_code) i;
+      channel_map = record { present = (flag-there r.channel_map.present) i; value = (channel-there r.channel_map.value) i };
+      infra_bssid_channel = (optional-there r.infra_bssid_channel) i;
+      infra_address = (optional-there r.infra_address) i;
+      awdl_address = (optional-there r.awdl_address) i;
+      unicast_options = (optional-there r.unicast_options) i;
+      unicast_options_ext = (optional-there r.unicast_options_ext) i;
+      extended_flags = (optional-there r.extended_flags) i;
+      rlfc = (optional-there r.rlfc) i;
+      log_trigger_id = (optional-there r.log_trigger_id) i;
+      stats = (optional-there r.stats) i;
     }
 
 -- a record with another sequence
@@ -178,11 +182,11 @@ readers : {A : Type 0} (numbers_of : A → List ℕ) (none : A) (at : ℕ) (m : 
 readers numbers_of none at (read a next) n offset size after t refusing = absurd (refusing t.outcome.number)
 readers numbers_of none at (refused why) n offset size after t refusing = (t.outcome.size, t.numbers)
 
-makers : {A : Type 0} (numbers_of : A → List ℕ) (none : A) (m : Answer A) (n : ℕ) (after : List ℕ) → ToldRecord numbers_of (result none m) n after → ¬ (n ≡ 0) → after ≡ numbers_of none
+makers : {A : Type 0} (numbers_of : A → List ℕ) (none : A) (m : Answer A) (n : ℕ) (after : List ℕ) → ToldRecord numbers_of (reply none m) n after → ¬ (n ≡ 0) → after ≡ numbers_of none
 makers numbers_of none (answer a) n after t refusing = absurd (refusing t.number)
 makers numbers_of none (refusal why) n after t refusing = t.numbers
 
-numbers : (m : Answer ℕ) (n value : ℕ) → ToldNumber (result 0 m) n value → ¬ (n ≡ 0) → value ≡ 0
+numbers : (m : Answer ℕ) (n value : ℕ) → ToldNumber (reply 0 m) n value → ¬ (n ≡ 0) → value ≡ 0
 numbers (answer v) n value t refusing = absurd (refusing t.number)
 numbers (refusal why) n value t refusing = t.value
 
@@ -277,55 +281,55 @@ frame-fits f w = pair (le-leb f.subtype 255 (omega (arith, w.subtype)))
     (refl))))
 
 data-path-fits : (r : DataPathStateTLV) → DataPathInWidth r → data_path_fits (data_path_numbers r) ≡ true
-data-path-fits r w = pair numbers_fit (channel-fits r.channel_map.channel w.channel)
+data-path-fits r w = pair numbers_fit (channel-fits r.channel_map.value w.channel)
   where
     numbers_fit : fits (data_path_numbers r) data_path_largest ≡ true
     numbers_fit =
         let g = w.ranges in
         pair (le-leb r.flags.0 65535 (omega (arith, g.flags)))
         (pair (flag-fits r.country_code.present)
-        (pair (le-leb r.country_code.first 255 (omega (arith, g.first)))
-        (pair (le-leb r.country_code.second 255 (omega (arith, g.second)))
-        (pair (le-leb r.country_code.pad 255 (omega (arith, g.pad)))
+        (pair (le-leb r.country_code.value.first 255 (omega (arith, g.first)))
+        (pair (le-leb r.country_code.value.second 255 (omega (arith, g.second)))
+        (pair (le-leb r.country_code.value.pad 255 (omega (arith, g.pad)))
         (pair (flag-fits r.channel_map.present)
-        (pair (kind_fits r.channel_map.channel)
-        (pair (le-leb (word_of r.channel_map.channel) 65535 (omega (arith, g.channel)))
+        (pair (kind_fits r.channel_map.value)
+        (pair (le-leb (word_of r.channel_map.value) 65535 (omega (arith, g.channel)))
         (pair (flag-fits r.infra_bssid_channel.present)
-        (pair (le-leb r.infra_bssid_channel.bssid.0 255 (omega (arith, g.bssid 0)))
-        (pair (le-leb r.infra_bssid_channel.bssid.1 255 (omega (arith, g.bssid 1)))
-        (pair (le-leb r.infra_bssid_channel.bssid.2 255 (omega (arith, g.bssid 2)))
-        (pair (le-leb r.infra_bssid_channel.bssid.3 255 (omega (arith, g.bssid 3)))
-        (pair (le-leb r.infra_bssid_channel.bssid.4 255 (omega (arith, g.bssid 4)))
-        (pair (le-leb r.infra_bssid_channel.bssid.5 255 (omega (arith, g.bssid 5)))
-        (pair (le-leb r.infra_bssid_channel.channel 65535 (omega (arith, g.infra)))
+        (pair (le-leb r.infra_bssid_channel.value.bssid.0 255 (omega (arith, g.bssid 0)))
+        (pair (le-leb r.infra_bssid_channel.value.bssid.1 255 (omega (arith, g.bssid 1)))
+        (pair (le-leb r.infra_bssid_channel.value.bssid.2 255 (omega (arith, g.bssid 2)))
+        (pair (le-leb r.infra_bssid_channel.value.bssid.3 255 (omega (arith, g.bssid 3)))
+        (pair (le-leb r.infra_bssid_channel.value.bssid.4 255 (omega (arith, g.bssid 4)))
+        (pair (le-leb r.infra_bssid_channel.value.bssid.5 255 (omega (arith, g.bssid 5)))
+        (pair (le-leb r.infra_bssid_channel.value.channel 65535 (omega (arith, g.infra)))
         (pair (flag-fits r.infra_address.present)
-        (pair (le-leb r.infra_address.address.0 255 (omega (arith, g.address 0)))
-        (pair (le-leb r.infra_address.address.1 255 (omega (arith, g.address 1)))
-        (pair (le-leb r.infra_address.address.2 255 (omega (arith, g.address 2)))
-        (pair (le-leb r.infra_address.address.3 255 (omega (arith, g.address 3)))
-        (pair (le-leb r.infra_address.address.4 255 (omega (arith, g.address 4)))
-        (pair (le-leb r.infra_address.address.5 255 (omega (arith, g.address 5)))
+        (pair (le-leb r.infra_address.value.0 255 (omega (arith, g.address 0)))
+        (pair (le-leb r.infra_address.value.1 255 (omega (arith, g.address 1)))
+        (pair (le-leb r.infra_address.value.2 255 (omega (arith, g.address 2)))
+        (pair (le-leb r.infra_address.value.3 255 (omega (arith, g.address 3)))
+        (pair (le-leb r.infra_address.value.4 255 (omega (arith, g.address 4)))
+        (pair (le-leb r.infra_address.value.5 255 (omega (arith, g.address 5)))
         (pair (flag-fits r.awdl_address.present)
-        (pair (le-leb r.awdl_address.address.0 255 (omega (arith, g.awdl 0)))
-        (pair (le-leb r.awdl_address.address.1 255 (omega (arith, g.awdl 1)))
-        (pair (le-leb r.awdl_address.address.2 255 (omega (arith, g.awdl 2)))
-        (pair (le-leb r.awdl_address.address.3 255 (omega (arith, g.awdl 3)))
-        (pair (le-leb r.awdl_address.address.4 255 (omega (arith, g.awdl 4)))
-        (pair (le-leb r.awdl_address.address.5 255 (omega (arith, g.awdl 5)))
+        (pair (le-leb r.awdl_address.value.0 255 (omega (arith, g.awdl 0)))
+        (pair (le-leb r.awdl_address.value.1 255 (omega (arith, g.awdl 1)))
+        (pair (le-leb r.awdl_address.value.2 255 (omega (arith, g.awdl 2)))
+        (pair (le-leb r.awdl_address.value.3 255 (omega (arith, g.awdl 3)))
+        (pair (le-leb r.awdl_address.value.4 255 (omega (arith, g.awdl 4)))
+        (pair (le-leb r.awdl_address.value.5 255 (omega (arith, g.awdl 5)))
         (pair (flag-fits r.unicast_options.present)
-        (pair (le-leb r.unicast_options.options.0 4294967295 (omega (arith, g.options)))
+        (pair (le-leb r.unicast_options.value.0 4294967295 (omega (arith, g.options)))
         (pair (flag-fits r.unicast_options_ext.present)
-        (pair (le-leb r.unicast_options_ext.word 4294967295 (omega (arith, g.ext)))
+        (pair (le-leb r.unicast_options_ext.value 4294967295 (omega (arith, g.ext)))
         (pair (flag-fits r.extended_flags.present)
-        (pair (le-leb r.extended_flags.flags.0 65535 (omega (arith, g.extended)))
+        (pair (le-leb r.extended_flags.value.0 65535 (omega (arith, g.extended)))
         (pair (flag-fits r.rlfc.present)
-        (pair (le-leb r.rlfc.word 4294967295 (omega (arith, g.rlfc)))
+        (pair (le-leb r.rlfc.value 4294967295 (omega (arith, g.rlfc)))
         (pair (flag-fits r.log_trigger_id.present)
-        (pair (le-leb r.log_trigger_id.id 65535 (omega (arith, g.trigger)))
+        (pair (le-leb r.log_trigger_id.value 65535 (omega (arith, g.trigger)))
         (pair (flag-fits r.stats.present)
-        (pair (le-leb r.stats.stats.msec_since_activation 4294967295 (omega (arith, g.msec)))
-        (pair (le-leb r.stats.stats.aw_seq_counter 4294967295 (omega (arith, g.aw)))
-        (pair (le-leb r.stats.stats.pay_update_coutner 4294967295 (omega (arith, g.pay)))
+        (pair (le-leb r.stats.value.msec_since_activation 4294967295 (omega (arith, g.msec)))
+        (pair (le-leb r.stats.value.aw_seq_counter 4294967295 (omega (arith, g.aw)))
+        (pair (le-leb r.stats.value.pay_update_coutner 4294967295 (omega (arith, g.pay)))
         (refl))))))))))))))))))))))))))))))))))))))))))))
 
 sequence-fits : (q : ChannelSequence) → SequenceInWidth q → fits (X.sequence_numbers q) (octets 33) ≡ true
@@ -445,11 +449,11 @@ synchronization-numbers =
 single-large : (ns : List ℕ) → get_or ns 6 0 ≡ 0 → 255 < get_or ns 7 0 → data_path_in ns ≡ refusal Inconsistent
 single-large ns kind above = fails (data_path_fits ns) (data_path_of ns) (λ fit. let fitting = (both (fits ns data_path_largest) _ fit).1 in false≢true (sym (rw (kind, lt-leb (get_or ns 7 0) 255 above)) ∙ fitting))
 
-placed : (m : Answer ℕ) (n offset value : ℕ) → ToldPlaced (result 0 m) n offset value → ¬ (n ≡ 0) → value ≡ 0
+placed : (m : Answer ℕ) (n offset value : ℕ) → ToldPlaced (reply 0 m) n offset value → ¬ (n ≡ 0) → value ≡ 0
 placed (answer v) n offset value t refusing = absurd (refusing t.number)
 placed (refusal why) n offset value t refusing = t.value
 
-hops : (m : Answer Hop) (n there : ℕ) (after : List ℕ) → ToldHop (result nothing m) n there after → ¬ (n ≡ 0) → (there ≡ 0) × (after ≡ X.channel_numbers zero_channel)
+hops : (m : Answer Hop) (n there : ℕ) (after : List ℕ) → ToldHop (reply nothing m) n there after → ¬ (n ≡ 0) → (there ≡ 0) × (after ≡ X.channel_numbers zero_channel)
 hops (answer h) n there after t refusing = absurd (refusing t.number)
 hops (refusal why) n there after t refusing = (t.found, t.numbers)
 

@@ -7,18 +7,21 @@ use mathlib.Core.Bool.{false, cond}
 use mathlib.Core.List.{List}
 use mathlib.Core.Logic.{◌↔◌, ◌⊎◌, inl, inr}
 use lib.Dec.{eqb}
+use Rattle.std.specs.Prelude.{Option, Some, None, Result, Ok, Err}
 use Rattle.wire.specs.declared.refusal.Refusal.{Refusal}
 use Rattle.wire.specs.declared.refusal.Refusal.TheVariants.{Short, NotAction, NotVersion, UnicastLength, Encoding, NoRoom, Inconsistent, TooLong, ChannelCount, LegacySequence, CorrectedChannel, TooMany, NonePermitted, NotPermitted, SmallerLoad}
 use Rattle.wire.specs.Refusals.{number_of, offset_of, carried_channel}
 use Rattle.wire.specs.Reading.{Reading, read, refused}
 use Rattle.wire.specs.Answer.{Answer, answer, refusal}
-use Rattle.wire.specs.Outcomes.{outcome, result}
+use Rattle.wire.specs.Said.{said, told}
+use Rattle.wire.specs.Outcomes.{outcome, reply, outcome_of, reply_of}
 use Rattle.wire.specs.Writing.{fits, Put, afterwards, Wrote}
-use Rattle.wire.proofs.Once.{only_one}
-use Rattle.channel_judge.specs.Said.{said_judgement}
-use Rattle.channel_judge.specs.Outcomes.{judged_result, result_judgement}
-use Rattle.channel_judge.proofs.Once.{once_judgement}
-use Rattle.promises.specs.Answers.{refused_outcome, refused_result, refused_judgement, Once, Answering}
+use Rattle.wire.proofs.Once.{only_one, once_said, once_told}
+use Rattle.channel.specs.declared.channel.Channel.{Channel}
+use Rattle.channel_sequence.specs.Hops.{Hop, hop, nothing, zero_channel, said_entry}
+use Rattle.channel_sequence.specs.Outcomes.{reply_entry}
+use Rattle.channel_judge.specs.Outcomes.{judged_reply, reply_judgement}
+use Rattle.promises.specs.Answers.{refused_outcome, refused_reply, refused_judgement, Answering}
 
 -- the numbers that refusals have
 abbrev Given : ℕ → Type 0
@@ -150,17 +153,15 @@ pub reader-offset : {A : Type 0} (nothing : A) (at : ℕ) (r : Reading A) → ¬
 reader-offset nothing at (read a next) other = refl
 reader-offset nothing at (refused why) other = no-offset why other
 
-pub call-offset : {A : Type 0} (nothing : A) (a : Answer A) → ¬ ((result nothing a).number ≡ 1) → (result nothing a).offset ≡ 0
+pub call-offset : {A : Type 0} (nothing : A) (a : Answer A) → ¬ ((reply nothing a).number ≡ 1) → (reply nothing a).offset ≡ 0
 call-offset nothing (answer a) other = refl
 call-offset nothing (refusal why) other = no-offset why other
 
-pub reader-answers : {T A : Type 0} (said : T → Reading A) (nothing : A) (at : ℕ) → Once said
-    → Answering said refused (λ a. outcome nothing at (said a)) (refused_outcome nothing)
-reader-answers said nothing at only = record { once = only; refuses = λ a why e. ap (outcome nothing at) e }
+pub reader-answers : {A : Type 0} (nothing : A) (at : ℕ) → Answering said refused (outcome_of nothing at) (refused_outcome nothing)
+reader-answers nothing at = record { once = λ a b e. once_said e refl; refuses = λ a why e. ap (outcome nothing at) e }
 
-pub call-answers : {T A : Type 0} (said : T → Answer A) (nothing : A) → Once said
-    → Answering said refusal (λ a. result nothing (said a)) (refused_result nothing)
-call-answers said nothing only = record { once = only; refuses = λ a why e. ap (result nothing) e }
+pub call-answers : {A : Type 0} (nothing : A) → Answering told refusal (reply_of nothing) (refused_reply nothing)
+call-answers nothing = record { once = λ a b e. once_told e refl; refuses = λ a why e. ap (reply nothing) e }
 
 left : (s : List ℕ) (bytes : Answer (List ℕ)) (why : Refusal) → afterwards s bytes (refusal why) ≡ s
 left s (answer bytes) why = refl
@@ -174,5 +175,17 @@ pub short-buffer : (s : List ℕ) (at : ℕ) (bytes : List ℕ) (next : ℕ) (af
     → Put s at bytes next after → fits s at bytes ≡ false → (next ≡ at) × (after ≡ s)
 short-buffer s at bytes next after p e = (p.place ∙ rw e, p.buffer ∙ rw e)
 
-pub judgement-answers : Answering said_judgement refusal result_judgement refused_judgement
-judgement-answers = record { once = λ a b e. once_judgement e refl; refuses = λ a why e. ap judged_result e }
+-- what an entry's answer says can be turned back into the answer
+abbrev of_hop : Answer Hop → Result (Option Channel) Refusal
+of_hop (answer (hop channel)) = Ok (Some channel)
+of_hop (answer nothing) = Ok None
+of_hop (refusal why) = Err why
+
+pub once_entry : {m : Answer Hop} {a b : Result (Option Channel) Refusal} → said_entry a ≡ m → said_entry b ≡ m → a ≡ b
+once_entry = only_one said_entry of_hop (elim [ Ok (Some channel) ↦ refl | Ok None ↦ refl | Err why ↦ refl ])
+
+pub entry-answers : Answering said_entry refusal reply_entry (refused_reply (hop zero_channel))
+entry-answers = record { once = λ a b e. once_entry e refl; refuses = λ a why e. ap (reply (hop zero_channel)) e }
+
+pub judgement-answers : Answering told refusal reply_judgement refused_judgement
+judgement-answers = record { once = λ a b e. once_told e refl; refuses = λ a why e. ap judged_reply e }

@@ -1,14 +1,13 @@
 -- What is promised of an answer that can be a refusal.
-use Rattle.std.specs.Prelude.{ℕ, ◌+◌, ◌≡◌, List, take, drop}
+use Rattle.std.specs.Prelude.{ℕ, ◌+◌, ◌≡◌, List, take, drop, Some}
 use Rattle.wire.specs.declared.refusal.Refusal.{Refusal}
 use Rattle.wire.specs.declared.refusal.Refusal.TheVariants.{Short}
 use Rattle.wire.specs.Refusals.{number_of, offset_of, carried_channel}
 use Rattle.wire.specs.Reading.{Reader, refused}
-use Rattle.wire.specs.Outcomes.{Outcome, Result}
+use Rattle.wire.specs.Outcomes.{Outcome, Reply}
 use Rattle.tlv_items.specs.declared.item.Item.{Item}
 use Rattle.tlv_items.specs.declared.item.Step.{Step}
 use Rattle.tlv_items.specs.Items.{step_at, value_of}
-use Rattle.action_frame.specs.declared.InFrame.{InFrame}
 use Rattle.action_frame.specs.Frames.{tail_of}
 use Rattle.action_frame.specs.Offsets.{value_in_frame, offset_in_frame}
 
@@ -16,33 +15,27 @@ use Rattle.action_frame.specs.Offsets.{value_in_frame, offset_in_frame}
 abbrev pub refused_outcome : {A : Type 0} → A → Refusal → Outcome A
 refused_outcome nothing why = record { number = number_of why; offset = offset_of why; value = nothing; size = 0 }
 
-abbrev pub refused_result : {A : Type 0} → A → Refusal → Result A
-refused_result nothing why = record { number = number_of why; offset = offset_of why; value = nothing }
+abbrev pub refused_reply : {A : Type 0} → A → Refusal → Reply A
+refused_reply nothing why = record { number = number_of why; offset = offset_of why; value = nothing }
 
 -- of the judge, with the channel that one refusal carries
-abbrev pub refused_judgement : Refusal → Result ℕ
+abbrev pub refused_judgement : Refusal → Reply ℕ
 refused_judgement why = record { number = number_of why; offset = offset_of why; value = carried_channel why }
 
 -- no two answers say the same
 abbrev pub Once : {T S : Type 0} → (T → S) → Type 0
 Once {T} said = (a b : T) → said a ≡ said b → a ≡ b
 
--- an enum, by what it says and by the number, the offset and the values that it stands for: where it says a refusal, it stands for that one
+-- an answer, by what it says and by the number, the offset and the values that it stands for: where it says a refusal, it stands for that one
 pub record Answering {T S O : Type 0} (said : T → S) (refuse : Refusal → S) (stands : T → O) (refusal : Refusal → O) : Type 0 where
   pub once : Once said
   pub refuses : (a : T) (why : Refusal) → said a ≡ refuse why → stands a ≡ refusal why
-
--- a struct that holds an enum beside the value, by the one struct that is made of what is said: where that is a refusal, the
--- struct stands for it, and the value that it holds is the zero value
-pub record HeldBeside {T S O A : Type 0} (made : S → T) (refuse : Refusal → S) (stands : T → O) (refusal : Refusal → O) (value : T → A) (nothing : A) : Type 0 where
-  pub refuses : (why : Refusal) → stands (made (refuse why)) ≡ refusal why
-  pub zero : (why : Refusal) → value (made (refuse why)) ≡ nothing
 
 -- What a caller has who is told that the value of an item is short at p, and turns that into an offset of the frame: an offset there always is; the
 -- value stands in the frame where the sum says; and read there, up to its own end, it is short at just that offset, where the field would start.
 pub record TurnsIntoFrame {A : Type 0} (reader : Reader A) (frame : List ℕ) (it : Item) (next p : ℕ) : Type 0 where
   pub offset : ℕ
-  pub given : offset_in_frame frame it p ≡ InFrame.At offset
+  pub given : offset_in_frame frame it p ≡ Some offset
   pub lies : drop (value_in_frame it) (take (12 + next) frame) ≡ value_of (tail_of frame) it
   pub short : reader (take (12 + next) frame) (value_in_frame it) ≡ refused (Short offset)
 

@@ -3,7 +3,7 @@ use Rattle.std.specs.Prelude.{ℕ, zero, suc, ◌<◌, ◌≡◌, true, false, L
 use Rattle.wire.specs.declared.refusal.Refusal.TheVariants.{Inconsistent}
 use Rattle.wire.specs.Reading.{Reading, refused}
 use Rattle.wire.specs.Answer.{Answer, answer, refusal}
-use Rattle.wire.specs.Outcomes.{Outcome, Result, outcome, result}
+use Rattle.wire.specs.Outcomes.{Outcome, Reply, outcome, reply}
 use Rattle.channel.specs.declared.channel.Channel.{Channel}
 use Rattle.channel.specs.Channels.{corrected}
 use Rattle.channel_sequence.specs.Sequences as Q
@@ -70,7 +70,7 @@ ChannelInWidth (DataPathChannel.ChannelMap map) = map.0 < 65536
 
 pub record DataPathInWidth (r : DataPathStateTLV) : Type 0 where
   pub ranges : Ranges r
-  pub channel : ChannelInWidth r.channel_map.channel
+  pub channel : ChannelInWidth r.channel_map.value
 
 pub record EntryInWidth (c : Channel) : Type 0 where
   pub encoding : c.encoding < 256
@@ -107,17 +107,17 @@ abbrev pub placed_data_path : DataPathStateTLV
 placed_data_path =
     record {
       flags = record { 0 = 0 };
-      country_code = record { present = true; first = 2; second = 3; pad = 4 };
-      channel_map = record { present = false; channel = DataPathChannel.ChannelMap (record { 0 = 7 }) };
-      infra_bssid_channel = record { present = true; bssid = record { 0 = 9; 1 = 10; 2 = 11; 3 = 12; 4 = 13; 5 = 14 }; channel = 15 };
-      infra_address = record { present = false; address = record { 0 = 17; 1 = 18; 2 = 19; 3 = 20; 4 = 21; 5 = 22 } };
-      awdl_address = record { present = true; address = record { 0 = 24; 1 = 25; 2 = 26; 3 = 27; 4 = 28; 5 = 29 } };
-      unicast_options = record { present = false; options = record { 0 = 31 } };
-      unicast_options_ext = record { present = true; word = 33 };
-      extended_flags = record { present = false; flags = record { 0 = 35 } };
-      rlfc = record { present = true; word = 37 };
-      log_trigger_id = record { present = false; id = 39 };
-      stats = record { present = true; stats = record { msec_since_activation = 41; aw_seq_counter = 42; pay_update_coutner = 43 } };
+      country_code = some (record { first = 2; second = 3; pad = 4 });
+      channel_map = none (DataPathChannel.ChannelMap (record { 0 = 7 }));
+      infra_bssid_channel = some (record { bssid = record { 0 = 9; 1 = 10; 2 = 11; 3 = 12; 4 = 13; 5 = 14 }; channel = 15 });
+      infra_address = none (record { 0 = 17; 1 = 18; 2 = 19; 3 = 20; 4 = 21; 5 = 22 });
+      awdl_address = some (record { 0 = 24; 1 = 25; 2 = 26; 3 = 27; 4 = 28; 5 = 29 });
+      unicast_options = none (record { 0 = 31 });
+      unicast_options_ext = some 33;
+      extended_flags = none (record { 0 = 35 });
+      rlfc = some 37;
+      log_trigger_id = none 39;
+      stats = some (record { msec_since_activation = 41; aw_seq_counter = 42; pay_update_coutner = 43 });
     }
 
 pub record OtherLanguages : Type 1 where
@@ -164,20 +164,20 @@ pub record OtherLanguages : Type 1 where
   pub writers : (s : List ℕ) (bytes : Answer (List ℕ)) (n size : ℕ) (after : List ℕ) → ToldWriting s bytes n size after → ¬ (n ≡ 0) → (size ≡ 0) × (after ≡ s)
   -- a call that refuses lays down the zero record or 0; the judge alone lays down a channel beside a refusal
   pub makers : {A : Type 0} (numbers_of : A → List ℕ) (none : A) (m : Answer A) (n : ℕ) (after : List ℕ)
-      → ToldRecord numbers_of (result none m) n after → ¬ (n ≡ 0) → after ≡ numbers_of none
-  pub numbers : (m : Answer ℕ) (n value : ℕ) → ToldNumber (result 0 m) n value → ¬ (n ≡ 0) → value ≡ 0
-  pub placed : (m : Answer ℕ) (n offset value : ℕ) → ToldPlaced (result 0 m) n offset value → ¬ (n ≡ 0) → value ≡ 0
-  pub hops : (m : Answer Hop) (n there : ℕ) (after : List ℕ) → ToldHop (result nothing m) n there after → ¬ (n ≡ 0) → (there ≡ 0) × (after ≡ X.channel_numbers zero_channel)
+      → ToldRecord numbers_of (reply none m) n after → ¬ (n ≡ 0) → after ≡ numbers_of none
+  pub numbers : (m : Answer ℕ) (n value : ℕ) → ToldNumber (reply 0 m) n value → ¬ (n ≡ 0) → value ≡ 0
+  pub placed : (m : Answer ℕ) (n offset value : ℕ) → ToldPlaced (reply 0 m) n offset value → ¬ (n ≡ 0) → value ≡ 0
+  pub hops : (m : Answer Hop) (n there : ℕ) (after : List ℕ) → ToldHop (reply nothing m) n there after → ¬ (n ≡ 0) → (there ≡ 0) × (after ≡ X.channel_numbers zero_channel)
   -- only one answer, with one content of what was lent, meets each statement
   pub reading-once : {A : Type 0} (numbers_of : A → List ℕ) (o : Outcome A) (n m p q size bytes : ℕ) (after last : List ℕ)
       → ToldReading numbers_of o n p size after → ToldReading numbers_of o m q bytes last → (n ≡ m) × (p ≡ q) × (size ≡ bytes) × (after ≡ last)
-  pub number-once : (r : Result ℕ) (n m v w : ℕ) → ToldNumber r n v → ToldNumber r m w → (n ≡ m) × (v ≡ w)
-  pub placed-once : (r : Result ℕ) (n m p q v w : ℕ) → ToldPlaced r n p v → ToldPlaced r m q w → (n ≡ m) × (p ≡ q) × (v ≡ w)
-  pub record-once : {A : Type 0} (numbers_of : A → List ℕ) (r : Result A) (n m : ℕ) (after last : List ℕ)
+  pub number-once : (r : Reply ℕ) (n m v w : ℕ) → ToldNumber r n v → ToldNumber r m w → (n ≡ m) × (v ≡ w)
+  pub placed-once : (r : Reply ℕ) (n m p q v w : ℕ) → ToldPlaced r n p v → ToldPlaced r m q w → (n ≡ m) × (p ≡ q) × (v ≡ w)
+  pub record-once : {A : Type 0} (numbers_of : A → List ℕ) (r : Reply A) (n m : ℕ) (after last : List ℕ)
       → ToldRecord numbers_of r n after → ToldRecord numbers_of r m last → (n ≡ m) × (after ≡ last)
   pub writing-once : (s : List ℕ) (bytes : Answer (List ℕ)) (n m size laid : ℕ) (after last : List ℕ)
       → ToldWriting s bytes n size after → ToldWriting s bytes m laid last → (n ≡ m) × (size ≡ laid) × (after ≡ last)
   pub step-once : (step : Step) (n m : ℕ) (after last : List ℕ) → ToldStep step n after → ToldStep step m last → (n ≡ m) × (after ≡ last)
   pub search-once : {A : Type 0} (numbers_of : A → List ℕ) (none : A) (s : Search A) (n m : ℕ) (item it after last : List ℕ)
       → ToldSearch numbers_of none s n item after → ToldSearch numbers_of none s m it last → (n ≡ m) × (item ≡ it) × (after ≡ last)
-  pub hop-once : (r : Result Hop) (n m there here : ℕ) (after last : List ℕ) → ToldHop r n there after → ToldHop r m here last → (n ≡ m) × (there ≡ here) × (after ≡ last)
+  pub hop-once : (r : Reply Hop) (n m there here : ℕ) (after last : List ℕ) → ToldHop r n there after → ToldHop r m here last → (n ≡ m) × (there ≡ here) × (after ≡ last)

@@ -2,7 +2,7 @@
 use Rattle.std.specs.Prelude.{◌≡◌, ℕ, true, List, [], ◌∷◌, ◌++◌, length, replicate}
 use Rattle.wire.specs.Reading.{Reading, read, refused}
 use Rattle.wire.specs.Answer.{Answer, answer, refusal}
-use Rattle.wire.specs.Outcomes.{Outcome, outcome, Result, result}
+use Rattle.wire.specs.Outcomes.{Outcome, outcome, Reply, reply}
 use Rattle.wire.specs.Writing.{within, length_of, afterwards}
 use Rattle.channel_sequence.specs.declared.channel_sequence.ChannelSequence.{ChannelSequence}
 use Rattle.channel_sequence.specs.Sequences as Q
@@ -37,12 +37,12 @@ read_and_written bytes_of (refused why) = refusal why
 
 -- what a writer answers, and the buffer that was lent to it
 pub record AnswerAndBuffer : Type 0 where
-  pub answered : Result ℕ
+  pub answered : Reply ℕ
   pub buffer : List ℕ
 
 abbrev pub written_into : List ℕ → Answer (List ℕ) → AnswerAndBuffer
 written_into s bytes =
-    let size : Answer ℕ = within (length s) (length_of bytes) in record { answered = result 0 size; buffer = afterwards s bytes size }
+    let size : Answer ℕ = within (length s) (length_of bytes) in record { answered = reply 0 size; buffer = afterwards s bytes size }
 
 -- a record of type 0x12 that holds a sequence, and a synchronization record whose fixed bytes count up from 1, so that no two are alike
 abbrev pub holding_sequence : ChannelSequence → ChannelSequenceTLV
@@ -79,42 +79,42 @@ legacy_with flags channel = record { encoding = 1; bytes = flags ∷ channel ∷
 
 pub data Row : Type 0 where
   value : List ℕ → Outcome DataPathStateTLV → Row
-  again : List ℕ → Result (List ℕ) → Row
+  again : List ℕ → Reply (List ℕ) → Row
   frame : List ℕ → Outcome AWDLActionFrame → Row
-  frame_again : List ℕ → Result (List ℕ) → Row
+  frame_again : List ℕ → Reply (List ℕ) → Row
   sync_value : List ℕ → Outcome SynchronizationParametersTLV → Row
-  sync_again : List ℕ → Result (List ℕ) → Row
+  sync_again : List ℕ → Reply (List ℕ) → Row
   tail : List ℕ → Walk → Row
-  correction : ℕ → ℕ → Result ℕ → Row
+  correction : ℕ → ℕ → Reply ℕ → Row
   sequence_into : ChannelSequence → List ℕ → AnswerAndBuffer → Row
   channel_sequence_into : ChannelSequence → List ℕ → AnswerAndBuffer → Row
   sync_into : ChannelSequence → List ℕ → AnswerAndBuffer → Row
-  conversion : ChannelSequence → Result ChannelSequence → Row
-  judging : List ChannelSequence → List ℕ → ℕ → Result ℕ → Row
-  judging_lent : List ℕ → List ℕ → ℕ → Result ℕ → Row
-  proposing : List ChannelSequence → List ℕ → Result ℕ → Row
-  loading : List ChannelSequence → ℕ → Result ℕ → Row
+  conversion : ChannelSequence → Reply ChannelSequence → Row
+  judging : List ChannelSequence → List ℕ → ℕ → Reply ℕ → Row
+  judging_lent : List ℕ → List ℕ → ℕ → Reply ℕ → Row
+  proposing : List ChannelSequence → List ℕ → Reply ℕ → Row
+  loading : List ChannelSequence → ℕ → Reply ℕ → Row
 
 -- a data path value is read, or read and written again; so is a frame's header, written with its tail, and a synchronization value; a tail is
 -- walked; the channel of legacy flags and a channel is corrected; a sequence is written into a buffer, by itself or in one of the two records that hold one;
 -- a legacy sequence is converted; a proposal is judged, by sequences laid one behind the other or by bytes as they are lent, our own is asked for, and a load
 abbrev pub Holds : Row → Type 0
 Holds (value bytes expected) = outcome zero_data_path 0 (data_path bytes 0) ≡ expected
-Holds (again bytes expected) = result [] (read_and_written D.bytes_of (data_path bytes 0)) ≡ expected
+Holds (again bytes expected) = reply [] (read_and_written D.bytes_of (data_path bytes 0)) ≡ expected
 Holds (frame bytes expected) = outcome zero_frame 0 (header bytes 0) ≡ expected
-Holds (frame_again bytes expected) = result [] (read_and_written (λ f. answer (F.bytes_of f (tail_of bytes))) (header bytes 0)) ≡ expected
+Holds (frame_again bytes expected) = reply [] (read_and_written (λ f. answer (F.bytes_of f (tail_of bytes))) (header bytes 0)) ≡ expected
 Holds (sync_value bytes expected) = outcome zero_synchronization 0 (synchronization bytes 0) ≡ expected
-Holds (sync_again bytes expected) = result [] (read_and_written S.bytes_of (synchronization bytes 0)) ≡ expected
+Holds (sync_again bytes expected) = reply [] (read_and_written S.bytes_of (synchronization bytes 0)) ≡ expected
 Holds (tail bytes expected) = walk bytes ≡ expected
-Holds (correction flags channel expected) = result 0 (corrected (record { encoding = 1; first = flags; second = channel })) ≡ expected
+Holds (correction flags channel expected) = reply 0 (corrected (record { encoding = 1; first = flags; second = channel })) ≡ expected
 Holds (sequence_into q s expected) = written_into s (Q.bytes_of q) ≡ expected
 Holds (channel_sequence_into q s expected) = written_into s (C.bytes_of (holding_sequence q)) ≡ expected
 Holds (sync_into q s expected) = written_into s (S.bytes_of (sync_holding q)) ≡ expected
-Holds (conversion q expected) = result zero_sequence (to_simple q) ≡ expected
+Holds (conversion q expected) = reply zero_sequence (to_simple q) ≡ expected
 Holds (judging sequences permitted proposal expected) = judged_result (judged (laid sequences) permitted proposal) ≡ expected
 Holds (judging_lent s permitted proposal expected) = judged_result (judged s permitted proposal) ≡ expected
-Holds (proposing sequences permitted expected) = result 0 (proposed (laid sequences) permitted) ≡ expected
-Holds (loading sequences channel expected) = result 0 (load_in (laid sequences) channel) ≡ expected
+Holds (proposing sequences permitted expected) = reply 0 (proposed (laid sequences) permitted) ≡ expected
+Holds (loading sequences channel expected) = reply 0 (load_in (laid sequences) channel) ≡ expected
 
 abbrev pub AllHold : List Row → Type 0
 AllHold [] = Unit {0}
@@ -130,11 +130,11 @@ short_at offset nothing = record { number = 1; offset = offset; value = nothing;
 abbrev pub accepted_with : {A : Type 0} → A → ℕ → Outcome A
 accepted_with a size = record { number = 0; offset = 0; value = a; size = size }
 
-abbrev pub written : List ℕ → Result (List ℕ)
+abbrev pub written : List ℕ → Reply (List ℕ)
 written bytes = record { number = 0; offset = 0; value = bytes }
 
 -- a record with these flags, country and channel, and nothing else
-abbrev pub holding : ℕ → CountryCode → OptionalChannel → DataPathStateTLV
+abbrev pub holding : ℕ → Optional CountryCode → Optional DataPathChannel → DataPathStateTLV
 holding flags country channel =
     record {
       flags = record { 0 = flags };
@@ -151,14 +151,14 @@ holding flags country channel =
       stats = no_stats;
     }
 
-abbrev pub country_with : ℕ → ℕ → ℕ → CountryCode
-country_with first second pad = record { present = true; first = first; second = second; pad = pad }
+abbrev pub country_with : ℕ → ℕ → ℕ → Optional CountryCode
+country_with first second pad = some (record { first = first; second = second; pad = pad })
 
-abbrev pub single : ℕ → OptionalChannel
-single channel = record { present = true; channel = DataPathChannel.SingleChannel channel }
+abbrev pub single : ℕ → Optional DataPathChannel
+single channel = some (DataPathChannel.SingleChannel channel)
 
-abbrev pub map : ℕ → OptionalChannel
-map bits = record { present = true; channel = DataPathChannel.ChannelMap (record { 0 = bits }) }
+abbrev pub map : ℕ → Optional DataPathChannel
+map bits = some (DataPathChannel.ChannelMap (record { 0 = bits }))
 
 unfoldable pub rows : List Row
 rows =
@@ -235,10 +235,10 @@ abbrev pub refused_into : ℕ → ℕ → AnswerAndBuffer
 refused_into room n = record { answered = record { number = n; offset = 0; value = 0 }; buffer = lent room }
 
 -- what a conversion gives of `legacy_with`, by its first channel
-abbrev pub becomes : ℕ → Result ChannelSequence
+abbrev pub becomes : ℕ → Reply ChannelSequence
 becomes channel = record { number = 0; offset = 0; value = record { encoding = 0; bytes = channel ∷ (replicate 15 0x24 ++ replicate 16 0x00) } }
 
-abbrev pub not_converted : ℕ → Result ChannelSequence
+abbrev pub not_converted : ℕ → Reply ChannelSequence
 not_converted n = record { number = n; offset = 0; value = zero_sequence }
 
 -- each encoding, and 2, which is none, into each writer, with one byte more than it needs; a legacy sequence also with flags that are too large, and into a buffer that
@@ -309,16 +309,16 @@ pairs_of encoding one other = record { encoding = encoding; bytes = times 16 (on
 abbrev pub unlisted : ChannelSequence
 unlisted = pairs_of 2 36 36
 
-abbrev pub accepting : Result ℕ
+abbrev pub accepting : Reply ℕ
 accepting = record { number = 0; offset = 0; value = 0 }
 
-abbrev pub refusing : ℕ → Result ℕ
+abbrev pub refusing : ℕ → Reply ℕ
 refusing n = record { number = n; offset = 0; value = 0 }
 
-abbrev pub showing : ℕ → Result ℕ
+abbrev pub showing : ℕ → Reply ℕ
 showing own = record { number = 30; offset = 0; value = own }
 
-abbrev pub gives : ℕ → Result ℕ
+abbrev pub gives : ℕ → Reply ℕ
 gives n = record { number = 0; offset = 0; value = n }
 
 -- no sequence, one, and as many as there may be and one more; the same of channels; loads that are equal, and a list that names a channel again; legacy entries whose
