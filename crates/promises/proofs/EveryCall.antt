@@ -28,8 +28,8 @@ use Rattle.channel_judge.specs.Judging.{judged, proposed, load_in}
 use Rattle.channel_judge.specs.Outcomes.{judged_reply}
 use Rattle.channel_sequence_tlv.specs.SequenceTLVs as C
 use Rattle.channel_sequence_tlv.specs.SequenceTLVReader.{channel_sequence_record}
-use Rattle.data_path_words.specs.Words.{has_any, extended_kept, options_kept, channel_of, word_of, no_channel, channel_word, channel_bytes, extended_word, extended_bytes, options_word, options_bytes, stats_words, stats_bytes}
-use Rattle.data_path_fields.specs.Fields.{head, body}
+use Rattle.data_path_words.specs.Words.{has_any, extended_kept, options_kept, channel_of, word_of, zero_channel, channel_word, channel_bytes, extended_word, extended_bytes, options_word, options_bytes, stats, stats_bytes}
+use Rattle.data_path_fields.specs.Fields.{country, country_bytes, infra, infra_bytes, head, body}
 use Rattle.data_path_state.specs.DataPath.{data_path}
 use Rattle.data_path_state.specs.Consistent.{consistent}
 use Rattle.data_path_state.specs.Mended.{mended}
@@ -87,6 +87,10 @@ use Rattle.data_path_words.proofs as bits
 use Rattle.data_path_words.specs.contracts as bits-said
 use Rattle.data_path_fields.proofs as fields
 use Rattle.data_path_fields.specs.contracts as fields-said
+use Rattle.data_path_fields.proofs.fields.CountryCodeWire as countries
+use Rattle.data_path_fields.specs.contracts.fields.CountryCodeWire as countries-said
+use Rattle.data_path_fields.proofs.fields.InfraBssidChannelWire as infras
+use Rattle.data_path_fields.specs.contracts.fields.InfraBssidChannelWire as infras-said
 use Rattle.data_path_state.proofs.data_path_state_tlv.DataPathStateTLV as data-paths
 use Rattle.data_path_state.specs.contracts.data_path_state_tlv.DataPathStateTLV as data-paths-said
 use Rattle.data_path_words.proofs.misc.DataPathChannelFromU16 as words
@@ -238,6 +242,14 @@ pub record EveryCall : Type 2 where
       (λ κs a r e. said r ≡ head a.0.now 0)
   pub data-path-body : Call fields.read_body.Symbol.name fields.read_body.Symbol.code fields-said.read_body.ended
       (λ κs a r e. said r ≡ body a.1.1.0 a.0.now a.1.0)
+  pub country-read-at : Call countries.read_at.Symbol.name countries.read_at.Symbol.code countries-said.read_at.ended
+      (λ κs a r e. said r ≡ country a.0.now a.1.0)
+  pub country-put-at : Call countries.put_at.Symbol.name countries.put_at.Symbol.code countries-said.put_at.ended
+      (λ κs a r e. Put a.1.0.now a.1.1.0 (country_bytes a.0) r e.1.0.now)
+  pub infra-read-at : Call infras.read_at.Symbol.name infras.read_at.Symbol.code infras-said.read_at.ended
+      (λ κs a r e. said r ≡ infra a.0.now a.1.0)
+  pub infra-put-at : Call infras.put_at.Symbol.name infras.put_at.Symbol.code infras-said.put_at.ended
+      (λ κs a r e. Put a.1.0.now a.1.1.0 (infra_bytes a.0) r e.1.0.now)
   pub word-has : Call bits.has.Symbol.name bits.has.Symbol.code bits-said.has.ended
       (λ κs a r e. r ≡ has_any a.0 a.1.0)
   pub channel-word-from-u16 : Call words.from.Symbol.name words.from.Symbol.code words-said.from.ended
@@ -245,7 +257,7 @@ pub record EveryCall : Type 2 where
   pub channel-word-as-u16 : Call words-of.from.Symbol.name words-of.from.Symbol.code words-of-said.from.ended
       (λ κs a r e. r ≡ word_of a.0)
   pub channel-word-default : Call no-words.default.Symbol.name no-words.default.Symbol.code no-words-said.default.ended
-      (λ κs a r e. r ≡ no_channel)
+      (λ κs a r e. r ≡ zero_channel)
   pub unicast-options-from-bits : Call options.from_bits.Symbol.name options.from_bits.Symbol.code options-said.from_bits.ended
       (λ κs a r e. r.0 ≡ word_by options_kept a.0)
   pub extended-flags-from-bits : Call extended.from_bits.Symbol.name extended.from_bits.Symbol.code extended-said.from_bits.ended
@@ -263,7 +275,7 @@ pub record EveryCall : Type 2 where
   pub extended-flags-put-at : Call extended-words.put_at.Symbol.name extended-words.put_at.Symbol.code extended-words-said.put_at.ended
       (λ κs a r e. Put a.1.0.now a.1.1.0 (extended_bytes a.0) r e.1.0.now)
   pub stats-read-at : Call stat-words.read_at.Symbol.name stat-words.read_at.Symbol.code stat-words-said.read_at.ended
-      (λ κs a r e. said r ≡ stats_words a.0.now a.1.0)
+      (λ κs a r e. said r ≡ stats a.0.now a.1.0)
   pub stats-put-at : Call stat-words.put_at.Symbol.name stat-words.put_at.Symbol.code stat-words-said.put_at.ended
       (λ κs a r e. Put a.1.0.now a.1.1.0 (stats_bytes a.0) r e.1.0.now)
   -- synchronization records
@@ -455,6 +467,10 @@ every_call =
       data-path-write = λ M. data-paths.write.Met.met;
       data-path-head = λ M. fields.read_head.Met.met;
       data-path-body = λ M. fields.read_body.Met.met;
+      country-read-at = λ M. countries.read_at.Met.met;
+      country-put-at = λ M. countries.put_at.Met.met;
+      infra-read-at = λ M. infras.read_at.Met.met;
+      infra-put-at = λ M. infras.put_at.Met.met;
       word-has = λ M. bits.has.Met.met;
       channel-word-from-u16 = λ M. words.from.Met.met;
       channel-word-as-u16 = λ M. words-of.from.Met.met;
