@@ -1,3 +1,4 @@
+pub mod Once
 pub mod Tests
 pub mod Entries
 pub mod KeptEntries

@@ -1,4 +1,3 @@
-pub mod Beside
 pub mod SequenceTLVs
 pub mod Laid
 pub mod ReadSequenceTLVs

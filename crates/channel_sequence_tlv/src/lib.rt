@@ -3,4 +3,4 @@
 
 mod channel_sequence_tlv;
 
-pub use channel_sequence_tlv::{ChannelSequenceTLV, ReadChannelSequence};
+pub use channel_sequence_tlv::ChannelSequenceTLV;
