@@ -4,20 +4,23 @@ use Rattle.std.specs.Prelude.{Bool, cond, ◌||◌, List, [], ◌∷◌}
 use Rattle.wire.specs.Words.{Run, keep, clear, put, word_by}
 use Rattle.data_path_words.specs.declared.flags.DataPathFlags.{DataPathFlags}
 use Rattle.data_path_state.specs.declared.data_path_state_tlv.DataPathStateTLV.{DataPathStateTLV}
-use Rattle.data_path_fields.specs.declared.fields.OptionalOptions.{OptionalOptions}
-use Rattle.data_path_fields.specs.declared.fields.OptionalExtendedFlags.{OptionalExtendedFlags}
-use Rattle.data_path_words.specs.Words.{options_kept}
-use Rattle.data_path_fields.specs.Fields.{no_country, no_channel, no_infra, no_address, no_word, no_trigger_id, no_stats}
+use Rattle.data_path_words.specs.declared.misc.UnicastOptions.{UnicastOptions}
+use Rattle.data_path_words.specs.declared.flags.DataPathExtendedFlags.{DataPathExtendedFlags}
+use Rattle.data_path_words.specs.Words.{options_kept, zero_channel, zero_stats}
+use Rattle.wire.specs.Addresses.{zero_address}
+use Rattle.data_path_fields.specs.declared.optional.Optional.{Optional}
+use Rattle.data_path_fields.specs.Optional as O
+use Rattle.data_path_fields.specs.Fields.{zero_country, zero_infra}
 
 -- options 0 are added under a lone second word
 abbrev pub has_options : DataPathStateTLV → Bool
 has_options r = r.unicast_options.present || r.unicast_options_ext.present
 
-abbrev pub mended_options : DataPathStateTLV → OptionalOptions
+abbrev pub mended_options : DataPathStateTLV → Optional UnicastOptions
 mended_options r =
     record {
       present = has_options r;
-      options = record { 0 = cond r.unicast_options.present (word_by options_kept r.unicast_options.options.0) 0 };
+      value = record { 0 = cond r.unicast_options.present (word_by options_kept r.unicast_options.value.0) 0 };
     }
 
 -- the extended word is added where one of its fields is there
@@ -37,11 +40,11 @@ extended_runs r =
     ∷ keep 8
     ∷ []
 
-abbrev pub mended_extended : DataPathStateTLV → OptionalExtendedFlags
+abbrev pub mended_extended : DataPathStateTLV → Optional DataPathExtendedFlags
 mended_extended r =
     record {
       present = has_extended r;
-      flags = record { 0 = word_by (extended_runs r) (cond r.extended_flags.present r.extended_flags.flags.0 0) };
+      value = record { 0 = word_by (extended_runs r) (cond r.extended_flags.present r.extended_flags.value.0 0) };
     }
 
 -- bits 0, 1, 2, 8, 9, 12 and 15 announce the fields
@@ -66,15 +69,15 @@ unfoldable pub mended : DataPathStateTLV → DataPathStateTLV
 mended r =
     record {
       flags = mended_flags r;
-      country_code = cond r.country_code.present r.country_code no_country;
-      channel_map = cond r.channel_map.present r.channel_map no_channel;
-      infra_bssid_channel = cond r.infra_bssid_channel.present r.infra_bssid_channel no_infra;
-      infra_address = cond r.infra_address.present r.infra_address no_address;
-      awdl_address = cond r.awdl_address.present r.awdl_address no_address;
+      country_code = O.mended zero_country r.country_code;
+      channel_map = O.mended zero_channel r.channel_map;
+      infra_bssid_channel = O.mended zero_infra r.infra_bssid_channel;
+      infra_address = O.mended zero_address r.infra_address;
+      awdl_address = O.mended zero_address r.awdl_address;
       unicast_options = mended_options r;
-      unicast_options_ext = cond r.unicast_options_ext.present r.unicast_options_ext no_word;
+      unicast_options_ext = O.mended 0 r.unicast_options_ext;
       extended_flags = mended_extended r;
-      rlfc = cond r.rlfc.present r.rlfc no_word;
-      log_trigger_id = cond r.log_trigger_id.present r.log_trigger_id no_trigger_id;
-      stats = cond r.stats.present r.stats no_stats;
+      rlfc = O.mended 0 r.rlfc;
+      log_trigger_id = O.mended 0 r.log_trigger_id;
+      stats = O.mended zero_stats r.stats;
     }

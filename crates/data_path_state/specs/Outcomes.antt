@@ -1,9 +1,9 @@
 -- The number, the offset and the values that the reader's answer stands for.
-use Rattle.wire.specs.Outcomes.{Outcome, outcome}
+use Rattle.std.specs.Prelude.{ℕ, Result}
+use Rattle.wire.specs.declared.refusal.Refusal.{Refusal}
+use Rattle.wire.specs.Outcomes.{Outcome, outcome_of}
 use Rattle.data_path_state.specs.declared.data_path_state_tlv.DataPathStateTLV.{DataPathStateTLV}
-use Rattle.data_path_state.specs.declared.data_path_state_tlv.ReadDataPathState.{ReadDataPathState}
 use Rattle.data_path_fields.specs.Fields.{no_country, no_channel, no_infra, no_address, no_options, no_word, no_extended_flags, no_trigger_id, no_stats}
-use Rattle.data_path_state.specs.Said.{said_data_path}
 
 abbrev pub zero_data_path : DataPathStateTLV
 zero_data_path =
@@ -22,5 +22,5 @@ zero_data_path =
       stats = no_stats;
     }
 
-abbrev pub outcome_data_path : ReadDataPathState → Outcome DataPathStateTLV
-outcome_data_path r = outcome zero_data_path 0 (said_data_path r)
+abbrev pub outcome_data_path : Result (DataPathStateTLV × ℕ) Refusal → Outcome DataPathStateTLV
+outcome_data_path = outcome_of zero_data_path 0

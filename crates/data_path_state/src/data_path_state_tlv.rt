@@ -1,43 +1,35 @@
 ghost use Rattle.std.specs.Prelude.{◌≡◌};
-ghost use Rattle.wire.specs.Said.{said_size};
+ghost use Rattle.wire.specs.Said.{said, told};
 ghost use Rattle.wire.specs.Writing.{Wrote};
 ghost use Rattle.data_path_state.specs.Bytes.{size_of, bytes_of};
 ghost use Rattle.data_path_state.specs.Consistent as C;
 ghost use Rattle.data_path_state.specs.Mended.{mended};
 ghost use Rattle.data_path_state.specs.DataPath as D;
 ghost use Rattle.data_path_state.specs.DataPath.{data_path};
-ghost use Rattle.data_path_state.specs.Said.{said_data_path};
 
-use crate::{consistent, mend, write};
+use crate::consistent::channel_right;
 use data_path_fields::{
-    Body, CountryCode, Head, InfraBssidChannel, OptionalAddress, OptionalChannel,
-    OptionalExtendedFlags, OptionalOptions, OptionalStats, OptionalTriggerId, OptionalWord,
-    ReadBody, ReadHead, read_body, read_head,
+    Body, CountryCode, Head, InfraBssidChannel, Optional, read_body, read_head,
 };
-use data_path_words::DataPathFlags;
-use wire::{AWDLTLVType, Refusal, Size};
+use data_path_words::{
+    DataPathChannel, DataPathExtendedFlags, DataPathFlags, DataPathStats, UnicastOptions,
+};
+use wire::{AWDLTLVType, MACAddress, Refusal, within};
 
-#[derive(Clone, Copy)]
+#[derive(Clone, Copy, Debug, PartialEq, Eq, Hash, Default)]
 pub struct DataPathStateTLV {
     pub flags: DataPathFlags,
-    pub country_code: CountryCode,
-    pub channel_map: OptionalChannel,
-    pub infra_bssid_channel: InfraBssidChannel,
-    pub infra_address: OptionalAddress,
-    pub awdl_address: OptionalAddress,
-    pub unicast_options: OptionalOptions,
-    pub unicast_options_ext: OptionalWord,
-    pub extended_flags: OptionalExtendedFlags,
-    pub rlfc: OptionalWord,
-    pub log_trigger_id: OptionalTriggerId,
-    pub stats: OptionalStats,
-}
-
-// The record and its size, or why there is none.
-#[derive(Clone, Copy)]
-pub enum ReadDataPathState {
-    Read(DataPathStateTLV, usize),
-    Refused(Refusal),
+    pub country_code: Optional<CountryCode>,
+    pub channel_map: Optional<DataPathChannel>,
+    pub infra_bssid_channel: Optional<InfraBssidChannel>,
+    pub infra_address: Optional<MACAddress>,
+    pub awdl_address: Optional<MACAddress>,
+    pub unicast_options: Optional<UnicastOptions>,
+    pub unicast_options_ext: Optional<u32>,
+    pub extended_flags: Optional<DataPathExtendedFlags>,
+    pub rlfc: Optional<u32>,
+    pub log_trigger_id: Optional<u16>,
+    pub stats: Optional<DataPathStats>,
 }
 
 impl DataPathStateTLV {
@@ -47,31 +39,23 @@ impl DataPathStateTLV {
 
     pub const MAX_SIZE: usize = 57;
 
-    // Bytes behind the record are no part of it.
-    pub fn read(s: &[u8]) -> ReadDataPathState
-        ensures { said_data_path result ≡ data_path s.now 0 }
+    // The record and its size. Bytes behind the record are no part of it.
+    pub fn read(s: &[u8]) -> Result<(DataPathStateTLV, usize), Refusal>
+        ensures { said result ≡ data_path s.now 0 }
     {
-        match read_head(s) {
-            ReadHead::Read(head, behind_head) => match read_body(s, behind_head, head.flags) {
-                ReadBody::Read(body, size) => {
-                    return ReadDataPathState::Read(record_of(head, body), size);
-                }
-                ReadBody::Refused(why) => return ReadDataPathState::Refused(why),
-            },
-            ReadHead::Refused(why) => return ReadDataPathState::Refused(why),
-        }
+        let (head, at) = read_head(s)?;
+        let (body, size) = read_body(s, at, head.flags)?;
+        Ok((record_of(head, body), size))
     }
 
     pub fn consistent(self) -> bool
         ensures { result ≡ C.consistent self }
     {
-        let word = self.channel_map;
-        let channel = word.channel;
-        consistent::bits_match(self)
-            & consistent::only_with(self)
-            & consistent::channel_right(channel)
-            & consistent::words_kept(self)
-            & consistent::absent_zero(self)
+        self.bits_match()
+            & self.only_with()
+            & channel_right(self.channel_map.value)
+            & self.words_kept()
+            & self.absent_zero()
     }
 
     // What the Rust's writer does before it writes. A channel that is there is left as it is.
@@ -79,69 +63,54 @@ impl DataPathStateTLV {
         ensures { result ≡ mended self }
     {
         DataPathStateTLV {
-            flags: mend::mend_flags(self),
-            country_code: mend::mend_country(self.country_code),
-            channel_map: mend::mend_channel(self.channel_map),
-            infra_bssid_channel: mend::mend_infra(self.infra_bssid_channel),
-            infra_address: mend::mend_address(self.infra_address),
-            awdl_address: mend::mend_address(self.awdl_address),
-            unicast_options: mend::mend_options(self),
-            unicast_options_ext: mend::mend_word(self.unicast_options_ext),
-            extended_flags: mend::mend_extended(self),
-            rlfc: mend::mend_word(self.rlfc),
-            log_trigger_id: mend::mend_trigger_id(self.log_trigger_id),
-            stats: mend::mend_stats(self.stats),
+            flags: self.mend_flags(),
+            country_code: self.country_code.mend(),
+            channel_map: self.channel_map.mend(),
+            infra_bssid_channel: self.infra_bssid_channel.mend(),
+            infra_address: self.infra_address.mend(),
+            awdl_address: self.awdl_address.mend(),
+            unicast_options: self.mend_options(),
+            unicast_options_ext: self.unicast_options_ext.mend(),
+            extended_flags: self.mend_extended(),
+            rlfc: self.rlfc.mend(),
+            log_trigger_id: self.log_trigger_id.mend(),
+            stats: self.stats.mend(),
         }
     }
 
-    pub fn size(self) -> Size
-        ensures { said_size result ≡ size_of self }
+    pub fn size(self) -> Result<usize, Refusal>
+        ensures { told result ≡ size_of self }
     {
-        if self.consistent() {
-            return Size::Bytes(write::sum(self));
+        if !self.consistent() {
+            return Err(Refusal::Inconsistent);
         }
-        Size::Refused(Refusal::Inconsistent)
+        Ok(self.sum())
     }
 
-    pub fn write(self, buf: &mut [u8]) -> Size
-        ensures { Wrote buf.old (bytes_of self) (said_size result) buf.new }
+    pub fn write(self, buf: &mut [u8]) -> Result<usize, Refusal>
+        ensures { Wrote buf.old (bytes_of self) (told result) buf.new }
     {
-        match wire::within(buf.len(), self.size()) {
-            Size::Bytes(n) => {
-                write::put_record(buf, self);
-                Size::Bytes(n)
-            }
-            Size::Refused(why) => Size::Refused(why),
-        }
+        let n = within(buf.len(), self.size())?;
+        self.put_record(buf);
+        Ok(n)
     }
 }
 
 fn record_of(head: Head, body: Body) -> DataPathStateTLV
     ensures { result ≡ D.record_of head body }
 {
-    let country_code = head.country;
-    let channel_map = head.channel;
-    let infra_bssid_channel = body.addresses.bssid;
-    let infra_address = body.addresses.infra;
-    let awdl_address = body.addresses.awdl;
-    let unicast_options = body.unicast.options;
-    let unicast_options_ext = body.unicast.ext;
-    let extended_flags = body.extended.flags;
-    let rlfc = body.extended.rlfc;
-    let log_trigger_id = body.extended.trigger;
-    let stats = body.extended.stats;
     DataPathStateTLV {
         flags: DataPathFlags(head.flags),
-        country_code,
-        channel_map,
-        infra_bssid_channel,
-        infra_address,
-        awdl_address,
-        unicast_options,
-        unicast_options_ext,
-        extended_flags,
-        rlfc,
-        log_trigger_id,
-        stats,
+        country_code: head.country,
+        channel_map: head.channel,
+        infra_bssid_channel: body.addresses.bssid,
+        infra_address: body.addresses.infra,
+        awdl_address: body.addresses.awdl,
+        unicast_options: body.unicast.options,
+        unicast_options_ext: body.unicast.ext,
+        extended_flags: body.extended.flags,
+        rlfc: body.extended.rlfc,
+        log_trigger_id: body.extended.trigger,
+        stats: body.extended.stats,
     }
 }

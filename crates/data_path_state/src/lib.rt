@@ -6,11 +6,8 @@ mod data_path_state_tlv;
 mod mend;
 mod write;
 
-pub use data_path_fields::{
-    CountryCode, InfraBssidChannel, OptionalAddress, OptionalChannel, OptionalExtendedFlags,
-    OptionalOptions, OptionalStats, OptionalTriggerId, OptionalWord,
-};
-pub use data_path_state_tlv::{DataPathStateTLV, ReadDataPathState};
+pub use data_path_fields::{CountryCode, Field, InfraBssidChannel, Optional};
+pub use data_path_state_tlv::DataPathStateTLV;
 pub use data_path_words::{
     ChannelMap, DataPathChannel, DataPathExtendedFlags, DataPathFlags, DataPathStats,
     UnicastOptions,
