@@ -17,9 +17,10 @@ use Rattle.channel.specs.Channels.{encoding_of}
 use Rattle.channel_sequence.specs.Sequences.{zero_sequence}
 use Rattle.channel_sequence.specs.SequenceReader.{sequence}
 use Rattle.channel_sequence_tlv.specs.SequenceTLVReader.{channel_sequence_record}
+use Rattle.data_path_words.specs.declared.misc.DataPathChannel.{DataPathChannel}
 use Rattle.data_path_words.specs.Words.{word_of}
 use Rattle.data_path_fields.specs.declared.fields.CountryCode.{CountryCode}
-use Rattle.data_path_fields.specs.declared.fields.OptionalChannel.{OptionalChannel}
+use Rattle.data_path_fields.specs.declared.optional.Optional.{Optional}
 use Rattle.data_path_fields.specs.Fields.{no_country, no_channel}
 use Rattle.data_path_state.specs.declared.data_path_state_tlv.DataPathStateTLV.{DataPathStateTLV}
 use Rattle.data_path_state.specs.Ranges.{Ranges}
@@ -82,7 +83,7 @@ item-reading =
           let value : r.value ≡ q.value = cc (e.1, f.1, ap (value_of s) same) in
           let size : m ≡ n = cc in
           ((λ i. record { type = type i; value = value i }), size);
-      needs-bytes = λ e. let step = e.0 in let z : ◌≡◌ {A = ℕ} 0 1 = cc in omega arith;
+      needs-bytes = λ e. let step = e.0 in cc;
     }
 
 pub item-archive : EndToEnd items
@@ -96,7 +97,7 @@ sequences-run =
       first = zero_sequence;
       others = zero_sequence ∷ [];
       another = record { encoding = 3; bytes = replicate 32 0 };
-      differ = λ e. let z : ◌≡◌ {A = ℕ} 0 3 = ap (λ (q : ChannelSequence). q.encoding) e in omega arith;
+      differ = λ e. omega (arith, ap (λ (q : ChannelSequence). q.encoding) e);
       all-consistent = ((refl, refl, refl), ((refl, refl, refl), ((refl, refl, refl), tt)));
       bytes = replicate 16 0;
       behind = replicate 16 0;
@@ -114,7 +115,7 @@ frames-run =
       first = record { head = zero_frame; tail = [] };
       others = record { head = zero_frame; tail = [] } ∷ [];
       another = record { head = zero_frame; tail = header_bytes zero_frame };
-      differ = λ e. let z : ◌≡◌ {A = ℕ} 0 12 = ap (λ (f : Frame). length f.tail) e in omega arith;
+      differ = λ e. omega (arith, ap (λ (f : Frame). length f.tail) e);
       all-consistent = (fits, (fits, (fits, tt)));
       bytes = header_bytes zero_frame;
       behind = header_bytes zero_frame;
@@ -158,7 +159,7 @@ unchecked-run =
       first = holding 0x0200 no_country no_channel;
       others = holding 0x0008 no_country no_channel ∷ [];
       another = holding 0x0200 no_country (single 8);
-      differ = λ e. let z : ◌≡◌ {A = ℕ} 2 4 = ap sum e in omega arith;
+      differ = λ e. omega (arith, ap sum e);
       all-consistent =
           (fits 0x0200 (single 8) (lit< tt) (lit< tt), (fits 0x0200 no_channel (lit< tt) (lit< tt), (fits 0x0008 no_channel (lit< tt) (lit< tt), tt)));
       bytes = 0x00 ∷ 0x02 ∷ [];
@@ -178,7 +179,7 @@ unmended-run =
       first = holding 0x0200 no_country no_channel;
       others = [];
       another = holding 0x0000 no_country no_channel;
-      differ = λ e. let z : ◌≡◌ {A = ℕ} 0x0200 0 = ap (λ (r : DataPathStateTLV). r.flags.0) e in omega arith;
+      differ = λ e. omega (arith, ap (λ (r : DataPathStateTLV). r.flags.0) e);
       all-consistent = ((fits 0x0000 (lit< tt), λ e. refl), ((fits 0x0200 (lit< tt), λ e. refl), tt));
       bytes = 0x00 ∷ 0x00 ∷ [];
       behind = [];

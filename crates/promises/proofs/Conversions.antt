@@ -66,9 +66,9 @@ made_of q {simple} e = go (is_legacy q) (all_flags_fit q.bytes) (corrected_all q
     go : (b d : Bool) (found : Answer (List ℕ)) → is_legacy q ≡ b → all_flags_fit q.bytes ≡ d → corrected_all q.bytes ≡ found → MadeOf q simple
     go true true (answer channels) l f g =
         let e' = rw (l, f, g) at e in record { legacy = l; fit = f; channels = channels; given = g; made = cc }
-    go true true (refusal why) l f g = absurd (let e' = rw (l, f, g) at e in let z : ◌≡◌ {A = ℕ} 0 1 = cc in omega arith)
-    go true false found l f g = absurd (let e' = rw (l, f) at e in let z : ◌≡◌ {A = ℕ} 0 1 = cc in omega arith)
-    go false d found l f g = absurd (let e' = rw l at e in let z : ◌≡◌ {A = ℕ} 0 1 = cc in omega arith)
+    go true true (refusal why) l f g = absurd (cc (rw (l, f, g) at e))
+    go true false found l f g = absurd (cc (rw (l, f) at e))
+    go false d found l f g = absurd (cc (rw l at e))
 
 -- a legacy sequence is consistent where its flags fit
 fit-consistent : (q : ChannelSequence) → is_legacy q ≡ true → Q.consistent q ≡ answer (all_flags_fit q.bytes)
@@ -115,7 +115,7 @@ module _ (q : ChannelSequence) (whole : length q.bytes ≡ 32) where
 
       go : ((corrected : ℕ) × Stays flags channel corrected) ⊎ Leaves flags channel → Stays flags channel (get_or w.channels n 0)
       go (inl (corrected, inside)) = let same : corrected ≡ get_or w.channels n 0 = cc (inside.inside, given) in rw (← same) inside
-      go (inr leaves) = absurd (let z : ◌≡◌ {A = ℕ} 0 1 = cc (leaves.refused, given) in omega arith)
+      go (inr leaves) = absurd (cc (leaves.refused, given))
 
   sixteen-bytes : {simple : ChannelSequence} (w : MadeOf q simple) (right : sequences.Consistent simple) → length (sequence-round simple right).bytes ≡ 16
   unfolding encoding_of
@@ -156,8 +156,7 @@ module _ (q : ChannelSequence) (whole : length q.bytes ≡ 32) where
       outside : (n : ℕ) (entry : Channel) → is_legacy q ≡ true → 16 ≤ n → hop_at q n ≡ answer (hop entry) → ⊥
       outside n entry legacy h e =
           let e' = rw (eqb-true q.encoding 1 legacy, le-leb 16 n h) at e in
-          let z : ◌≡◌ {A = ℕ} 0 1 = cc in
-          omega arith
+          cc
 
       inside : {simple : ChannelSequence} → MadeOf q simple → (n : ℕ) (entry : Channel) → hop_at q n ≡ answer (hop entry) → n < 16 → StaysInside entry
       inside w n entry e h =

@@ -27,6 +27,7 @@ use Rattle.channel_sequence_tlv.specs.Widths.{ChannelSequenceInWidth}
 use Rattle.channel_judge.specs.Judging.{judged, load_in}
 use Rattle.data_path_words.specs.declared.misc.DataPathChannel.{DataPathChannel}
 use Rattle.data_path_words.specs.Words.{word_of}
+use Rattle.data_path_fields.specs.declared.optional.Optional.{Optional}
 use Rattle.data_path_state.specs.declared.data_path_state_tlv.DataPathStateTLV.{DataPathStateTLV}
 use Rattle.data_path_state.specs.Consistent.{consistent}
 use Rattle.data_path_state.specs.Mended.{mended}
@@ -274,11 +275,7 @@ others : {width v : ℕ} {rest : List (ℕ × ℕ)} → AllInWidth ((width, v) �
 others (one h rest) = rest
 
 frame-fits : (f : AWDLActionFrame) → F.InWidth f → fits (frame_numbers f) frame_largest ≡ true
-frame-fits f w = pair (le-leb f.subtype 255 (omega (arith, w.subtype)))
-    (pair (le-leb f.reserved 255 (omega (arith, w.reserved)))
-    (pair (le-leb f.phy_tx_time.0 4294967295 (omega (arith, w.phy)))
-    (pair (le-leb f.target_tx_time.0 4294967295 (omega (arith, w.target)))
-    (refl))))
+frame-fits f w = let a = w.subtype in let b = w.reserved in let c = w.phy in let d = w.target in grind arith
 
 data-path-fits : (r : DataPathStateTLV) → DataPathInWidth r → data_path_fits (data_path_numbers r) ≡ true
 data-path-fits r w = pair numbers_fit (channel-fits r.channel_map.value w.channel)
@@ -427,7 +424,7 @@ data-path-numbers = as-numbers 44 data_path_largest data_path_fits data_path_num
 entry-numbers : AsNumbers EntryInWidth 3 (octets 3) X.channel_numbers X.channel_in zero_channel
 entry-numbers =
     as-numbers 3 (octets 3) (λ ns. fits ns (octets 3)) X.channel_numbers X.channel_of zero_channel
-    (λ c w. pair (le-leb c.encoding 255 (omega (arith, w.encoding))) (pair (le-leb c.first 255 (omega (arith, w.first))) (pair (le-leb c.second 255 (omega (arith, w.second))) refl)))
+    (λ c w. let a = w.encoding in let b = w.first in let d = w.second in grind arith)
     (λ c w. refl) (λ ns e f. listed 3 ns e) (large (octets 3) X.channel_of) refl
 
 sequence-numbers : AsNumbers SequenceInWidth 33 (octets 33) X.sequence_numbers X.sequence_in Q.zero_sequence

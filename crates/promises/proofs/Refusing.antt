@@ -7,7 +7,6 @@ use mathlib.Core.Bool.{false, cond}
 use mathlib.Core.List.{List}
 use mathlib.Core.Logic.{◌↔◌, ◌⊎◌, inl, inr}
 use lib.Dec.{eqb}
-use Rattle.std.specs.Prelude.{Option, Some, None, Result, Ok, Err}
 use Rattle.wire.specs.declared.refusal.Refusal.{Refusal}
 use Rattle.wire.specs.declared.refusal.Refusal.TheVariants.{Short, NotAction, NotVersion, UnicastLength, Encoding, NoRoom, Inconsistent, TooLong, ChannelCount, LegacySequence, CorrectedChannel, TooMany, NonePermitted, NotPermitted, SmallerLoad}
 use Rattle.wire.specs.Refusals.{number_of, offset_of, carried_channel}
@@ -17,9 +16,9 @@ use Rattle.wire.specs.Said.{said, told}
 use Rattle.wire.specs.Outcomes.{outcome, reply, outcome_of, reply_of}
 use Rattle.wire.specs.Writing.{fits, Put, afterwards, Wrote}
 use Rattle.wire.proofs.Once.{only_one, once_said, once_told}
-use Rattle.channel.specs.declared.channel.Channel.{Channel}
-use Rattle.channel_sequence.specs.Hops.{Hop, hop, nothing, zero_channel, said_entry}
+use Rattle.channel_sequence.specs.Hops.{hop, zero_channel, said_entry}
 use Rattle.channel_sequence.specs.Outcomes.{reply_entry}
+use Rattle.channel_sequence.proofs.Once.{once_entry}
 use Rattle.channel_judge.specs.Outcomes.{judged_reply, reply_judgement}
 use Rattle.promises.specs.Answers.{refused_outcome, refused_reply, refused_judgement, Answering}
 
@@ -28,21 +27,7 @@ abbrev Given : ℕ → Type 0
 Given n = ((1 ≤ n) × (n ≤ 8)) ⊎ ((n ≡ 10) ⊎ ((n ≡ 18) ⊎ ((n ≡ 19) ⊎ ((27 ≤ n) × (n ≤ 30)))))
 
 number-range : (why : Refusal) → Given (number_of why)
-number-range (Short at) = inl (omega arith)
-number-range NotAction = inl (omega arith)
-number-range NotVersion = inl (omega arith)
-number-range UnicastLength = inl (omega arith)
-number-range Encoding = inl (omega arith)
-number-range NoRoom = inl (omega arith)
-number-range Inconsistent = inl (omega arith)
-number-range TooLong = inl (omega arith)
-number-range ChannelCount = inr (inl refl)
-number-range LegacySequence = inr (inr (inl refl))
-number-range CorrectedChannel = inr (inr (inr (inl refl)))
-number-range TooMany = inr (inr (inr (inr (omega arith))))
-number-range NonePermitted = inr (inr (inr (inr (omega arith))))
-number-range NotPermitted = inr (inr (inr (inr (omega arith))))
-number-range (SmallerLoad own) = inr (inr (inr (inr (omega arith))))
+number-range why = grind arith
 
 first-eight : (n : ℕ) → 1 ≤ n → n ≤ 8 → (why : Refusal) × (number_of why ≡ n)
 first-eight zero low high = absurd (omega arith)
@@ -115,39 +100,11 @@ numbers_apart why other e f g = only_one stands_for numbered back (rw (e, f, g))
     back (SmallerLoad own) = refl
 
 no-offset : (why : Refusal) → ¬ (number_of why ≡ 1) → offset_of why ≡ 0
-no-offset (Short at) other = absurd (other refl)
-no-offset NotAction other = refl
-no-offset NotVersion other = refl
-no-offset UnicastLength other = refl
-no-offset Encoding other = refl
-no-offset NoRoom other = refl
-no-offset Inconsistent other = refl
-no-offset TooLong other = refl
-no-offset ChannelCount other = refl
-no-offset LegacySequence other = refl
-no-offset CorrectedChannel other = refl
-no-offset TooMany other = refl
-no-offset NonePermitted other = refl
-no-offset NotPermitted other = refl
-no-offset (SmallerLoad own) other = refl
+no-offset why other = grind arith
 
 -- a channel goes with 30 alone
 pub no-channel : (why : Refusal) → ¬ (number_of why ≡ 30) → carried_channel why ≡ 0
-no-channel (Short at) other = refl
-no-channel NotAction other = refl
-no-channel NotVersion other = refl
-no-channel UnicastLength other = refl
-no-channel Encoding other = refl
-no-channel NoRoom other = refl
-no-channel Inconsistent other = refl
-no-channel TooLong other = refl
-no-channel ChannelCount other = refl
-no-channel LegacySequence other = refl
-no-channel CorrectedChannel other = refl
-no-channel TooMany other = refl
-no-channel NonePermitted other = refl
-no-channel NotPermitted other = refl
-no-channel (SmallerLoad own) other = absurd (other refl)
+no-channel why other = grind arith
 
 pub reader-offset : {A : Type 0} (nothing : A) (at : ℕ) (r : Reading A) → ¬ ((outcome nothing at r).number ≡ 1) → (outcome nothing at r).offset ≡ 0
 reader-offset nothing at (read a next) other = refl
@@ -174,15 +131,6 @@ refused-buffer s bytes said after why w e = w.buffer ∙ ap (afterwards s bytes)
 pub short-buffer : (s : List ℕ) (at : ℕ) (bytes : List ℕ) (next : ℕ) (after : List ℕ)
     → Put s at bytes next after → fits s at bytes ≡ false → (next ≡ at) × (after ≡ s)
 short-buffer s at bytes next after p e = (p.place ∙ rw e, p.buffer ∙ rw e)
-
--- what an entry's answer says can be turned back into the answer
-abbrev of_hop : Answer Hop → Result (Option Channel) Refusal
-of_hop (answer (hop channel)) = Ok (Some channel)
-of_hop (answer nothing) = Ok None
-of_hop (refusal why) = Err why
-
-pub once_entry : {m : Answer Hop} {a b : Result (Option Channel) Refusal} → said_entry a ≡ m → said_entry b ≡ m → a ≡ b
-once_entry = only_one said_entry of_hop (elim [ Ok (Some channel) ↦ refl | Ok None ↦ refl | Err why ↦ refl ])
 
 pub entry-answers : Answering said_entry refusal reply_entry (refused_reply (hop zero_channel))
 entry-answers = record { once = λ a b e. once_entry e refl; refuses = λ a why e. ap (reply (hop zero_channel)) e }

@@ -43,11 +43,11 @@ unfolding step_at
 step-headed s at {it} {next} e = let w = step-stands s at e in go (eqb at (length s)) (item at s at) refl (omega arith) e
   where
     go : (b : Bool) (r : Reading Item) → item at s at ≡ r → at + 3 ≤ length s → cond b Step.Whole (step_of at r) ≡ Step.Item it next → Headed s at it
-    go true r q h e = absurd (let z : ◌≡◌ {A = ℕ} 0 1 = cc in omega arith)
+    go true r q h e = cc
     go false (read it' next') q h e =
         let same : it' ≡ it = cc in
         headed s at h (q ∙ ap (λ x. read x next') same)
-    go false (refused why) q h e = absurd (let z : ◌≡◌ {A = ℕ} 0 1 = cc in omega arith)
+    go false (refused why) q h e = cc
 
 three-bytes : (s : List ℕ) (at : ℕ) → at + 3 ≤ length s
     → drop at s ≡ get_or s at 0 ∷ get_or s (at + 1) 0 ∷ get_or s (at + 1 + 1) 0 ∷ drop (at + 3) s
@@ -103,7 +103,7 @@ spells-step s at b (Step.Item it next) rest q more e =
     let there = more it next q e in
     record { bytes = rw (← there.bytes) here.bytes; fit = (here.fits, there.fit) }
 spells-step s at b Step.Whole rest q more e = record { bytes = rw (step-whole s at q) (drop-length s); fit = tt }
-spells-step s at b (Step.Cut place) rest q more e = absurd (let z : ◌≡◌ {A = ℕ} 0 1 = cc in omega arith)
+spells-step s at b (Step.Cut place) rest q more e = cc
 
 spells-from : (m : ℕ) (s : List ℕ) (at : ℕ) → Bytes s → length s - at < m → (walk_from m s at).ending ≡ whole → Spells s at (walk_from m s at).items
 unfolding walk_from

@@ -125,9 +125,9 @@ module _ (f : ℕ → ℕ) where
     where
       go : (s p n : Bool) → leb 1 (length ps) ≡ s → is_permitted c ps ≡ p → none_below f ps c ≡ n → Accepted ps c
       go true true true g h k = record { permitted = h; least = k }
-      go true true false g h k = absurd (let e' = rw (g, h, k) at e in let z : ◌≡◌ {A = ℕ} 0 1 = cc in omega arith)
-      go true false n g h k = absurd (let e' = rw (g, h) at e in let z : ◌≡◌ {A = ℕ} 0 1 = cc in omega arith)
-      go false p n g h k = absurd (let e' = rw g at e in let z : ◌≡◌ {A = ℕ} 0 1 = cc in omega arith)
+      go true true false g h k = absurd (cc (rw (g, h, k) at e))
+      go true false n g h k = absurd (cc (rw (g, h) at e))
+      go false p n g h k = absurd (cc (rw g at e))
 
 -- the loads, where there are any
 can-loads : {qs : List ChannelSequence} {ps : List ℕ} → CanJudge qs ps → loads qs (length ps) ≡ answer (load qs)
@@ -155,8 +155,8 @@ accepted qs ps c = (λ e. there e (known-loads qs ps), back)
     there : judged_of qs ps c ≡ answer tt → Known qs ps → CanJudge qs ps × Permitted ps c × NoneSmaller qs ps c
     there e (are-known w) =
         let a = accepted-by (load qs) ps c (rw (can-loads w) at e) in (w, permitted-place ps c a.permitted, none-smaller (load qs) a.least)
-    there e (too_many g) = absurd (let e' = rw g at e in let z : ◌≡◌ {A = ℕ} 0 1 = cc in omega arith)
-    there e (not_listed g) = absurd (let e' = rw g at e in let z : ◌≡◌ {A = ℕ} 0 1 = cc in omega arith)
+    there e (too_many g) = absurd (cc (rw g at e))
+    there e (not_listed g) = absurd (cc (rw g at e))
 
     back : CanJudge qs ps × Permitted ps c × NoneSmaller qs ps c → judged_of qs ps c ≡ answer tt
     back h = rw (can-loads h.0) (accept-by (load qs) ps c (permitted-test h.1) (none-below (load qs) ps c h.2))
@@ -172,9 +172,9 @@ proposing qs ps c e = go (known-loads qs ps) (leb 1 (length ps)) refl
   where
     go : Known qs ps → (s : Bool) → leb 1 (length ps) ≡ s → Proposing qs ps c
     go (are-known w) true k = record { can = w; some = leb-true 1 (length ps) k; is-own = let e' = rw (can-loads w, k) at e in cc }
-    go (are-known w) false k = absurd (let e' = rw (can-loads w, k) at e in let z : ◌≡◌ {A = ℕ} 0 1 = cc in omega arith)
-    go (too_many g) s k = absurd (let e' = rw g at e in let z : ◌≡◌ {A = ℕ} 0 1 = cc in omega arith)
-    go (not_listed g) s k = absurd (let e' = rw g at e in let z : ◌≡◌ {A = ℕ} 0 1 = cc in omega arith)
+    go (are-known w) false k = absurd (cc (rw (can-loads w, k) at e))
+    go (too_many g) s k = absurd (cc (rw g at e))
+    go (not_listed g) s k = absurd (cc (rw g at e))
 
 pub own-given : (qs : List ChannelSequence) (ps : List ℕ) → CanJudge qs ps → 0 < length ps → (c : ℕ) × (proposed_of qs ps ≡ answer c)
 own-given qs ps w some = (own (load qs) ps, rw (can-loads w, le-leb 1 (length ps) some))
@@ -202,11 +202,11 @@ own-shown qs ps c o e = go (known-loads qs ps) (leb 1 (length ps)) (is_permitted
     go : Known qs ps → (s p n : Bool) → leb 1 (length ps) ≡ s → is_permitted c ps ≡ p → none_below (load qs) ps c ≡ n → proposed_of qs ps ≡ answer o
     go (are-known w) true true false k i j =
         let e' = rw (can-loads w, k, i, j) at e in let same : own (load qs) ps ≡ o = cc in rw (can-loads w, k, same)
-    go (are-known w) true true true k i j = absurd (let e' = rw (can-loads w, k, i, j) at e in let z : ◌≡◌ {A = ℕ} 0 1 = cc in omega arith)
-    go (are-known w) true false n k i j = absurd (let e' = rw (can-loads w, k, i) at e in let z : ◌≡◌ {A = ℕ} 0 1 = cc in omega arith)
-    go (are-known w) false p n k i j = absurd (let e' = rw (can-loads w, k) at e in let z : ◌≡◌ {A = ℕ} 0 1 = cc in omega arith)
-    go (too_many g) s p n k i j = absurd (let e' = rw g at e in let z : ◌≡◌ {A = ℕ} 0 1 = cc in omega arith)
-    go (not_listed g) s p n k i j = absurd (let e' = rw g at e in let z : ◌≡◌ {A = ℕ} 0 1 = cc in omega arith)
+    go (are-known w) true true true k i j = absurd (cc (rw (can-loads w, k, i, j) at e))
+    go (are-known w) true false n k i j = absurd (cc (rw (can-loads w, k, i) at e))
+    go (are-known w) false p n k i j = absurd (cc (rw (can-loads w, k) at e))
+    go (too_many g) s p n k i j = absurd (cc (rw g at e))
+    go (not_listed g) s p n k i j = absurd (cc (rw g at e))
 
 pub idle : (qs : List ChannelSequence) (ps : List ℕ) (free c : ℕ) → CanJudge qs ps → Permitted ps free → load qs free ≡ 0 → Permitted ps c → 0 < load qs c
     → (o : ℕ) × ((judged_of qs ps c ≡ refusal (SmallerLoad o)) × (load qs o ≡ 0))

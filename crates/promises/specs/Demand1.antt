@@ -14,6 +14,12 @@ use Rattle.wire.specs.Said.{said, told}
 use Rattle.wire.specs.Outcomes.{outcome, reply, outcome_of, reply_of}
 use Rattle.channel.specs.Outcomes.{reply_encoding, reply_corrected}
 use Rattle.channel_sequence.specs.Outcomes.{reply_consistent, reply_entry, outcome_sequence, reply_made}
+use Rattle.channel_sequence_tlv.specs.Outcomes.{outcome_channel_sequence}
+use Rattle.channel_judge.specs.Outcomes.{reply_judgement, reply_proposal, reply_load}
+use Rattle.data_path_fields.specs.Outcomes.{zero_head, zero_body, outcome_head, outcome_body}
+use Rattle.data_path_state.specs.Outcomes.{zero_data_path, outcome_data_path}
+use Rattle.synchronization_parameters.specs.Outcomes.{outcome_synchronization}
+use Rattle.action_frame.specs.Outcomes.{outcome_frame}
 use Rattle.text.specs.declared.hex.HexError.{HexError}
 use Rattle.text.specs.Words.{decimal_of}
 use Rattle.text.specs.Into.{PutSaid, TellsSame}
@@ -25,9 +31,7 @@ use Rattle.channel_sequence_tlv.specs.SequenceTLVs.{zero_channel_sequence}
 use Rattle.channel_sequence_tlv.specs.SequenceTLVReader.{channel_sequence_record}
 use Rattle.channel_sequence_tlv.specs.FieldWidths.{head_widths}
 use Rattle.data_path_fields.specs.Fields.{head, body}
-use Rattle.data_path_fields.specs.Outcomes.{zero_head, zero_body}
 use Rattle.data_path_state.specs.DataPath.{data_path}
-use Rattle.data_path_state.specs.Outcomes.{zero_data_path}
 use Rattle.synchronization_parameters.specs.SynchronizationReader.{synchronization, zero_synchronization}
 use Rattle.synchronization_parameters.specs.FieldWidths.{fixed_widths}
 use Rattle.tlv_items.specs.Said.{said_end}

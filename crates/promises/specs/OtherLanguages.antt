@@ -15,6 +15,7 @@ use Rattle.channel_sequence_tlv.specs.SequenceTLVs as C
 use Rattle.channel_sequence_tlv.specs.Widths.{ChannelSequenceInWidth}
 use Rattle.channel_judge.specs.Judging.{judged, load_in}
 use Rattle.data_path_words.specs.declared.misc.DataPathChannel.{DataPathChannel}
+use Rattle.data_path_fields.specs.Optional as O
 use Rattle.data_path_state.specs.declared.data_path_state_tlv.DataPathStateTLV.{DataPathStateTLV}
 use Rattle.data_path_state.specs.Consistent.{consistent}
 use Rattle.data_path_state.specs.Mended.{mended}
@@ -107,17 +108,17 @@ abbrev pub placed_data_path : DataPathStateTLV
 placed_data_path =
     record {
       flags = record { 0 = 0 };
-      country_code = some (record { first = 2; second = 3; pad = 4 });
-      channel_map = none (DataPathChannel.ChannelMap (record { 0 = 7 }));
-      infra_bssid_channel = some (record { bssid = record { 0 = 9; 1 = 10; 2 = 11; 3 = 12; 4 = 13; 5 = 14 }; channel = 15 });
-      infra_address = none (record { 0 = 17; 1 = 18; 2 = 19; 3 = 20; 4 = 21; 5 = 22 });
-      awdl_address = some (record { 0 = 24; 1 = 25; 2 = 26; 3 = 27; 4 = 28; 5 = 29 });
-      unicast_options = none (record { 0 = 31 });
-      unicast_options_ext = some 33;
-      extended_flags = none (record { 0 = 35 });
-      rlfc = some 37;
-      log_trigger_id = none 39;
-      stats = some (record { msec_since_activation = 41; aw_seq_counter = 42; pay_update_coutner = 43 });
+      country_code = O.some (record { first = 2; second = 3; pad = 4 });
+      channel_map = O.none (DataPathChannel.ChannelMap (record { 0 = 7 }));
+      infra_bssid_channel = O.some (record { bssid = record { 0 = 9; 1 = 10; 2 = 11; 3 = 12; 4 = 13; 5 = 14 }; channel = 15 });
+      infra_address = O.none (record { 0 = 17; 1 = 18; 2 = 19; 3 = 20; 4 = 21; 5 = 22 });
+      awdl_address = O.some (record { 0 = 24; 1 = 25; 2 = 26; 3 = 27; 4 = 28; 5 = 29 });
+      unicast_options = O.none (record { 0 = 31 });
+      unicast_options_ext = O.some 33;
+      extended_flags = O.none (record { 0 = 35 });
+      rlfc = O.some 37;
+      log_trigger_id = O.none 39;
+      stats = O.some (record { msec_since_activation = 41; aw_seq_counter = 42; pay_update_coutner = 43 });
     }
 
 pub record OtherLanguages : Type 1 where

@@ -1,5 +1,5 @@
 -- The starred rows of the table of bytes at the edges, and rows for the reserved bytes and for legacy sequences: what each asks, and the whole answer to it.
-use Rattle.std.specs.Prelude.{◌≡◌, ℕ, true, List, [], ◌∷◌, ◌++◌, length, replicate}
+use Rattle.std.specs.Prelude.{◌≡◌, ℕ, List, [], ◌∷◌, ◌++◌, length, replicate}
 use Rattle.wire.specs.Reading.{Reading, read, refused}
 use Rattle.wire.specs.Answer.{Answer, answer, refusal}
 use Rattle.wire.specs.Outcomes.{Outcome, outcome, Reply, reply}
@@ -12,10 +12,11 @@ use Rattle.channel_sequence_tlv.specs.declared.channel_sequence_tlv.ChannelSeque
 use Rattle.channel_sequence_tlv.specs.SequenceTLVs as C
 use Rattle.channel.specs.Channels.{corrected}
 use Rattle.channel_judge.specs.Judging.{judged, proposed, load_in}
-use Rattle.channel_judge.specs.Outcomes.{judged_result}
+use Rattle.channel_judge.specs.Outcomes.{judged_reply}
 use Rattle.data_path_words.specs.declared.misc.DataPathChannel.{DataPathChannel}
 use Rattle.data_path_fields.specs.declared.fields.CountryCode.{CountryCode}
-use Rattle.data_path_fields.specs.declared.fields.OptionalChannel.{OptionalChannel}
+use Rattle.data_path_fields.specs.declared.optional.Optional.{Optional}
+use Rattle.data_path_fields.specs.Optional.{some}
 use Rattle.data_path_state.specs.declared.data_path_state_tlv.DataPathStateTLV.{DataPathStateTLV}
 use Rattle.data_path_fields.specs.Fields.{no_country, no_channel, no_infra, no_address, no_options, no_word, no_extended_flags, no_trigger_id, no_stats}
 use Rattle.data_path_state.specs.DataPath.{data_path}
@@ -111,8 +112,8 @@ Holds (sequence_into q s expected) = written_into s (Q.bytes_of q) ≡ expected
 Holds (channel_sequence_into q s expected) = written_into s (C.bytes_of (holding_sequence q)) ≡ expected
 Holds (sync_into q s expected) = written_into s (S.bytes_of (sync_holding q)) ≡ expected
 Holds (conversion q expected) = reply zero_sequence (to_simple q) ≡ expected
-Holds (judging sequences permitted proposal expected) = judged_result (judged (laid sequences) permitted proposal) ≡ expected
-Holds (judging_lent s permitted proposal expected) = judged_result (judged s permitted proposal) ≡ expected
+Holds (judging sequences permitted proposal expected) = judged_reply (judged (laid sequences) permitted proposal) ≡ expected
+Holds (judging_lent s permitted proposal expected) = judged_reply (judged s permitted proposal) ≡ expected
 Holds (proposing sequences permitted expected) = reply 0 (proposed (laid sequences) permitted) ≡ expected
 Holds (loading sequences channel expected) = reply 0 (load_in (laid sequences) channel) ≡ expected
 
