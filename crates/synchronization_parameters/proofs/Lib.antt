@@ -4,4 +4,3 @@ pub mod Sizes
 pub mod RoundTrip
 pub mod Again
 pub mod FromBytes
-pub mod Beside

@@ -3,4 +3,4 @@
 
 mod synchronization_parameters_tlv;
 
-pub use synchronization_parameters_tlv::{ReadSynchronization, SynchronizationParametersTLV};
+pub use synchronization_parameters_tlv::SynchronizationParametersTLV;

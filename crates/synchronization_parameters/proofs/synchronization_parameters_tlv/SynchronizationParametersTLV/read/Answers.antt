@@ -1,16 +1,25 @@
--- A value without its fixed part is refused for the field that does not fit, and the refusal of the sequence is the record's.
--- Assumes nothing.
-use Rattle.std.proofs.Common.{arith}
-use Rattle.channel_sequence_tlv.specs.SequenceTLVReader.{channel_sequence_record}
-use Rattle.channel_sequence_tlv.proofs.Beside.{channel-sequence-beside}
-use Rattle.synchronization_parameters.proofs.Whole.{all-fields, fixed-short}
+-- Where 33 bytes stand, each field is at its place in front of the sequence that was read, or what refuses the sequence refuses the record; where they do
+-- not, the first field that is short does. Assumes nothing.
+use Rattle.std.proofs.Common.{ℕ, ap, sym, ◌∙◌, arith}
+use Rattle.std.proofs.lemmas.Result.{err_from_is_err_and}
+use Rattle.wire.specs.declared.refusal.Refusal.TheVariants.{Short}
+use Rattle.wire.specs.Reading.{refused}
+use Rattle.synchronization_parameters.proofs.Whole.{all-fields, all_words, fixed-short}
 use Rattle.synchronization_parameters.proofs.synchronization_parameters_tlv.SynchronizationParametersTLV.read.Goals as goal
 
 pub returns-then-s-lt-FIXED_SIZE : goal.returns-then-s-lt-FIXED_SIZE
-returns-then-s-lt-FIXED_SIZE c = rw (fixed-short c.args.s.now (omega arith)) (rw c.first_short.ensures at c.refused.ensures)
+returns-then-s-lt-FIXED_SIZE c =
+    ap (λ (p : ℕ). refused (Short p)) c.first_short.ensures ∙ sym (fixed-short c.args.s.now (omega arith))
 
-pub returns-in-Refused : goal.returns-in-Refused
-returns-in-Refused c =
-    let s = c.args.s.now in
-    let said = channel-sequence-beside (channel_sequence_record s 33) c.read-read.ensures c.in-Refused.is in
-    rw (all-fields s (omega arith), said) c.refused-in-Refused.ensures
+pub returns-in_err-channel_sequence : goal.returns-in_err-channel_sequence
+returns-in_err-channel_sequence c =
+    let p = err_from_is_err_and c.from_residual.result c.from_residual.ensures.1 in
+    rw (p.1, p.2, all-fields c.args.s.now (omega arith), ← c.in_err-channel_sequence.ensures)
+
+pub returns : goal.returns
+returns c =
+    sym (all_words c.args.s.now (omega arith) (sym c.in_ok-channel_sequence.ensures)
+    c.word.ensures c.word-2.ensures
+    c.word-3.ensures c.word-4.ensures c.word-5.ensures
+    c.word-6.ensures c.word-7.ensures
+    c.word-8.ensures c.word-9.ensures)

@@ -1,4 +1,4 @@
--- 33 bytes more are written than of the sequence, or what refuses it refuses the record.
+-- 33 bytes more are written than of the sequence.
 -- Assumes nothing.
 use Rattle.std.proofs.Common.{sym, arith, rules}
 use Rattle.channel_sequence_tlv.proofs.SequenceTLVs.{channel-sequence-written}
@@ -7,10 +7,7 @@ use Rattle.synchronization_parameters.proofs.synchronization_parameters_tlv.Sync
 
 pub overflow_add-result : goal.overflow_add-result
 overflow_add-result c =
-    omega (arith, (channel-sequence-written c.args.self.channel_sequence (search rules) (sym c.in-Bytes.ensures)).few)
+    omega (arith, (channel-sequence-written c.args.self.channel_sequence (search rules) (sym c.in_ok-written_size.ensures)).few)
 
-pub returns-in-Bytes : goal.returns-in-Bytes
-returns-in-Bytes c = sym (length-written c.args.self (sym c.in-Bytes.ensures))
-
-pub returns-in-Refused : goal.returns-in-Refused
-returns-in-Refused c = sym (length-written c.args.self (sym c.in-Refused.ensures))
+pub returns : goal.returns
+returns c = sym (length-written c.args.self (sym c.in_ok-written_size.ensures))
