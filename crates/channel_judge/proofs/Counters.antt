@@ -1,54 +1,54 @@
 -- Counters grow step by step: what they hold and what is still ahead make up the whole at every step, and no counter passes the number of entries.
 -- Assumes nothing.
-use Prim.Native.Nat.{ℕ, zero, suc, ◌+◌, ◌-◌, ◌*◌, ◌≤◌, ◌<◌}
+use Prim.Native.Nat.{ℕ, zero, suc, ◌+◌, ◌-◌, ◌*◌, ◌/◌, ◌≤◌, ◌<◌}
 use native.Mathlib.Omega.{arith}
-use mathlib.Core.Path.{◌≡◌, refl, sym, ◌∙◌}
+use mathlib.Core.Path.{◌≡◌, refl, ap, ◌∙◌, fun_ext}
 use mathlib.Core.Bool.{Bool, true, false, cond}
-use mathlib.Core.List.{List, [], ◌∷◌}
+use mathlib.Core.List.{List, [], ◌∷◌, ◌++◌}
 use lib.Dec.{eqb}
-use lib.ListN.{length, get_or, drop, set, length-set}
-use lib.Seq.{get_or-drop, get_or-set_same, get_or-set_other, drop-drop}
-use borrow.Author.Tests.{eqb-true, eqb-false}
+use lib.ListN.{length, get_or, take, drop, length-append}
+use lib.Seq.{take-length, take_at, drop_at}
 use Rattle.wire.specs.declared.refusal.Refusal.{Refusal}
+use Rattle.wire.specs.declared.refusal.Refusal.TheVariants.{Encoding}
 use Rattle.wire.specs.Answer.{Answer, answer, refusal}
-use Rattle.wire.specs.Parts.{between}
 use Rattle.channel.specs.declared.channel.ChannelEncoding.{ChannelEncoding}
+use Rattle.channel.specs.declared.channel.ChannelEncoding.TheVariants.{Simple, Legacy, OpClass}
 use Rattle.channel.specs.Channels.{encoding_of}
 use Rattle.channel_sequence.specs.declared.channel_sequence.ChannelSequence.{ChannelSequence}
 use Rattle.channel_sequence.specs.Hops.{entry_bytes}
 use Rattle.channel_judge.specs.Loads.{sequences_from, corrected_entry, channels_from, channels_in, count, load, all_listed}
-use Rattle.channel_judge.specs.Counters.{AtMost, Grown}
-
--- one counter has grown by one
-pub one-counted : (counts : List ℕ) (c : ℕ) → c < length counts → Grown counts (λ channel. count channel (c ∷ [])) (set counts c (get_or counts c 0 + 1))
-one-counted counts c inside = record { many = length-set counts c (get_or counts c 0 + 1); each = λ channel. go channel (eqb c channel) refl }
-  where
-    go : (channel : ℕ) (same : Bool) → eqb c channel ≡ same → get_or (set counts c (get_or counts c 0 + 1)) channel 0 ≡ get_or counts channel 0 + (cond same 1 0 + 0)
-    go channel true e = rw (← eqb-true c channel e, get_or-set_same counts c (get_or counts c 0 + 1) 0 inside) (omega arith)
-    go channel false e = get_or-set_other counts c channel (get_or counts c 0 + 1) 0 (λ f. eqb-false c channel e (sym f)) ∙ omega arith
+use Rattle.channel_judge.specs.declared.loads.Loads.{Loads}
+use Rattle.channel_judge.specs.Counters.{load_by, AtMost, Grown, whole_sequences, counted}
 
 -- what the counters hold and what is ahead make up what they held at the start and the whole
-pub record Underway (start counts : List ℕ) (ahead whole : ℕ → ℕ) : Type 0 where
-  pub many : length counts ≡ length start
-  pub each : (channel : ℕ) → get_or counts channel 0 + ahead channel ≡ get_or start channel 0 + whole channel
+pub record Underway (start counters : Loads) (ahead whole : ℕ → ℕ) : Type 0 where
+  pub each : (channel : ℕ) → load_by counters channel + ahead channel ≡ load_by start channel + whole channel
 
-pub begun : (counts : List ℕ) (whole : ℕ → ℕ) → Underway counts counts whole whole
-begun counts whole = record { many = refl; each = λ channel. refl }
+pub begun : (counters : Loads) (whole : ℕ → ℕ) → Underway counters counters whole whole
+begun counters whole = record { each = λ channel. refl }
 
-pub further : {start counts after : List ℕ} {ahead next by whole : ℕ → ℕ} → Underway start counts ahead whole → Grown counts by after
+pub further : {start counters after : Loads} {ahead next by whole : ℕ → ℕ} → Underway start counters ahead whole → Grown counters by after
     → ((channel : ℕ) → ahead channel ≡ by channel + next channel) → Underway start after next whole
-further w g split = record {
-  many = g.many ∙ w.many;
-  each = λ channel. omega (arith, w.each channel, g.each channel, split channel);
-}
+further w g split = record { each = λ channel. omega (arith, w.each channel, g.each channel, split channel) }
 
-pub ended : {start counts : List ℕ} {ahead whole : ℕ → ℕ} → Underway start counts ahead whole → ((channel : ℕ) → ahead channel ≡ 0) → Grown start whole counts
-ended w none = record { many = w.many; each = λ channel. omega (arith, w.each channel, none channel) }
+pub ended : {start counters : Loads} {ahead whole : ℕ → ℕ} → Underway start counters ahead whole → ((channel : ℕ) → ahead channel ≡ 0) → Grown start whole counters
+ended w none = record { each = λ channel. omega (arith, w.each channel, none channel) }
 
 -- of counters that started at n and have a whole of at most m, none is above n + m
-pub bounded : {start counts : List ℕ} {ahead whole : ℕ → ℕ} {n m : ℕ} → Underway start counts ahead whole → AtMost n start
-    → ((channel : ℕ) → whole channel ≤ m) → AtMost (n + m) counts
+pub bounded : {start counters : Loads} {ahead whole : ℕ → ℕ} {n m : ℕ} → Underway start counters ahead whole → AtMost n start
+    → ((channel : ℕ) → whole channel ≤ m) → AtMost (n + m) counters
 bounded w low most channel = omega (arith, w.each channel, low channel, most channel)
+
+-- an encoding is refused for one reason
+only-encoding : (n : ℕ) {why : Refusal} → refusal why ≡ encoding_of n → why ≡ Encoding
+unfolding encoding_of
+only-encoding n {why} e = go (eqb n 0) (eqb n 1) (eqb n 3) e
+  where
+    go : (a b c : Bool) → refusal why ≡ cond a (answer Simple) (cond b (answer Legacy) (cond c (answer OpClass) (refusal Encoding))) → why ≡ Encoding
+    go true b c e = absurd (let z : ◌≡◌ {A = ℕ} 0 1 = cc in omega arith)
+    go false true c e = absurd (let z : ◌≡◌ {A = ℕ} 0 1 = cc in omega arith)
+    go false false true e = absurd (let z : ◌≡◌ {A = ℕ} 0 1 = cc in omega arith)
+    go false false false e = cc
 
 -- a channel is at most so often among some as there are
 abbrev most : (same : Bool) → cond {A = ℕ} same 1 0 ≤ 1
@@ -79,34 +79,62 @@ next-entry encoding bytes i inside =
     let f : suc i ≡ i + 1 = omega arith in
     rw (e, f)
 
--- the sequences that are ahead: the next one and those behind it
-next-sequence : (s : List ℕ) (at left : ℕ) → 0 < left
-    → sequences_from left (drop at s) ≡ record { encoding = get_or s at 0; bytes = between s (at + 1) (at + 33) } ∷ sequences_from (left - 1) (drop (at + 33) s)
-next-sequence s at zero some = absurd (omega arith)
-next-sequence s at (suc left) some =
-    let e : suc left - 1 ≡ left = omega arith in
-    let f : at + 33 - (at + 1) ≡ 32 = omega arith in
-    let g : at + 0 ≡ at = omega arith in
-    rw (e, get_or-drop at s 0 0, drop-drop 1 at s, drop-drop 33 at s, f, g)
-
--- its encoding is listed, or it is not
-pub next-load : (s : List ℕ) (at left : ℕ) {known : ChannelEncoding} → 0 < left → encoding_of (get_or s at 0) ≡ answer known → (channel : ℕ)
-    → load (sequences_from left (drop at s)) channel
-    ≡ count channel (channels_from known (between s (at + 1) (at + 33)) 0 16) + load (sequences_from (left - 1) (drop (at + 33) s)) channel
-next-load s at left some found channel = rw (next-sequence s at left some, found)
-
-pub next-listed : (s : List ℕ) (at left : ℕ) {known : ChannelEncoding} → 0 < left → encoding_of (get_or s at 0) ≡ answer known
-    → all_listed (sequences_from left (drop at s)) ≡ all_listed (sequences_from (left - 1) (drop (at + 33) s))
-next-listed s at left some found = rw (next-sequence s at left some, found)
-
-pub next-unlisted : (s : List ℕ) (at left : ℕ) {why : Refusal} → 0 < left → encoding_of (get_or s at 0) ≡ refusal why
-    → all_listed (sequences_from left (drop at s)) ≡ false
-next-unlisted s at left some found = rw (next-sequence s at left some, found)
-
 pub many-sequences : (many : ℕ) (s : List ℕ) → length (sequences_from many s) ≡ many
 many-sequences zero s = refl
 many-sequences (suc many) s = rw (many-sequences many (drop 33 s))
 
 -- 64 sequences have 1,024 entries
-pub load-bound : (many : ℕ) (s : List ℕ) → many ≤ 64 → (channel : ℕ) → load (sequences_from many s) channel ≤ 1024
-load-bound many s few channel = omega (arith, load-most (sequences_from many s) channel, many-sequences many s)
+load-bound : (s : List ℕ) → length s / 33 ≤ 64 → (channel : ℕ) → load (whole_sequences s) channel ≤ 1024
+load-bound s few channel = omega (arith, load-most (whole_sequences s) channel, many-sequences (length s / 33) s)
+
+-- what has been counted and the sequences that are ahead make up all of them
+pub record Passing (s rest : List ℕ) (counters : Loads) : Type 0 where
+  pub listed : all_listed (whole_sequences s) ≡ all_listed (whole_sequences rest)
+  pub loads : (channel : ℕ) → load_by counters channel + load (whole_sequences rest) channel ≡ load (whole_sequences s) channel
+
+pub passing-begun : {s rest : List ℕ} (counters : Loads) → rest ≡ s → ((channel : ℕ) → load_by counters channel ≡ 0) → Passing s rest counters
+passing-begun counters same none = record { listed = rw same; loads = λ channel. rw same (omega (arith, none channel)) }
+
+pub passing-bounded : {s rest : List ℕ} {counters : Loads} → Passing s rest counters → length s / 33 ≤ 64 → AtMost 1024 counters
+passing-bounded {s} w few channel = omega (arith, w.loads channel, load-bound s few channel)
+
+-- the sequences that are ahead: the next one and those behind it
+next-sequence : (x rest : List ℕ) → length x ≡ 33 → whole_sequences (x ++ rest) ≡ record { encoding = get_or x 0 0; bytes = drop 1 x } ∷ whole_sequences rest
+next-sequence [] rest many = absurd (let z : ◌≡◌ {A = ℕ} 0 33 = many in omega arith)
+next-sequence (b ∷ bytes) rest many =
+    let long : length bytes ≡ 32 = omega arith in
+    let one : length (b ∷ bytes ++ rest) / 33 ≡ suc (length rest / 33) = rw (length-append bytes rest, long) (omega arith) in
+    rw (one, take_at bytes rest 32 long, drop_at bytes rest 32 long)
+
+-- behind the encoding
+pub behind_first : (x : List ℕ) → take (length x - 1) (drop 1 x) ≡ drop 1 x
+behind_first [] = refl
+behind_first (b ∷ bytes) = let e : length (b ∷ bytes) - 1 ≡ length bytes = omega arith in rw e (take-length bytes)
+
+-- its encoding is listed, or it is not
+pub passed-on : {s rest : List ℕ} (x behind bytes : List ℕ) {counters after : Loads} {known : ChannelEncoding} → Passing s rest counters → rest ≡ x ++ behind → length x ≡ 33
+    → answer known ≡ encoding_of (get_or x 0 0) → bytes ≡ drop 1 x → Grown counters (λ channel. count channel (channels_from known bytes 0 16)) after
+    → Passing s behind after
+passed-on {s} {rest} x behind bytes {known = known} w e many found part g =
+    let next = ap whole_sequences e ∙ next-sequence x behind many in
+    record {
+      listed = w.listed ∙ rw (next, ← found);
+      loads = λ channel.
+          let split : load (whole_sequences rest) channel ≡ count channel (channels_from known bytes 0 16) + load (whole_sequences behind) channel = rw (next, ← found, part) in
+          omega (arith, w.loads channel, g.each channel);
+    }
+
+pub passed-unlisted : {s rest : List ℕ} (x behind : List ℕ) {counters : Loads} {why : Refusal} → Passing s rest counters → rest ≡ x ++ behind → length x ≡ 33
+    → refusal why ≡ encoding_of (get_or x 0 0) → refusal why ≡ counted (whole_sequences s)
+passed-unlisted x behind w e many found =
+    let next = ap whole_sequences e ∙ next-sequence x behind many in
+    rw (w.listed, next, ← found, only-encoding (get_or x 0 0) found)
+
+-- behind the last one all are counted
+pub passed-all : {s rest : List ℕ} {counters : Loads} → Passing s rest counters → length rest < 33
+    → answer (load_by counters) ≡ counted (whole_sequences s)
+passed-all {s} {rest} {counters} w few =
+    let none : length rest / 33 ≡ 0 = omega arith in
+    let all : all_listed (whole_sequences s) ≡ true = w.listed ∙ rw none in
+    let held : load_by counters ≡ load (whole_sequences s) = fun_ext (λ channel. let left : load (whole_sequences rest) channel ≡ 0 = rw none in omega (arith, w.loads channel)) in
+    rw (all, held)

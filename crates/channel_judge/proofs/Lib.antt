@@ -1,4 +1,3 @@
 pub mod Counters
 pub mod Loaded
 pub mod Least
-pub mod Once

@@ -4,4 +4,4 @@
 mod channel_judge;
 mod loads;
 
-pub use channel_judge::{Judgement, Load, Proposal, channel_load, judge, own_proposal};
+pub use channel_judge::{channel_load, judge, own_proposal};

@@ -1,97 +1,107 @@
-ghost use Rattle.std.specs.Prelude.{◌≡◌, ◌∷◌, [], ◌/◌, ◌≤◌, ◌<◌, length, get_or};
+ghost use Rattle.std.specs.Prelude.{◌≡◌, ◌∷◌, [], ◌/◌, ◌≤◌, ◌<◌, length, cond, ltb};
+ghost use Rattle.wire.specs.Said.{told};
 ghost use Rattle.channel_sequence.specs.Hops.{entry_bytes};
-ghost use Rattle.channel_judge.specs.Loads.{sequences_from, corrected_entry, channels_from, count};
-ghost use Rattle.channel_judge.specs.Counters.{AtMost, Grown, CountedAll, lent_loads, said_counting};
+ghost use Rattle.channel_judge.specs.Loads.{corrected_entry, channels_from, count};
+ghost use Rattle.channel_judge.specs.Judging.{judged_by, proposed_by};
+ghost use Rattle.channel_judge.specs.Counters.{load_by, AtMost, Grown, said_loads, whole_sequences, counted, lent_loads};
 
-use channel::{ChannelEncoding, FoundEncoding};
+use channel::ChannelEncoding;
 use wire::Refusal;
 
-// Whether the counters hold the loads, or why they do not.
+// A counter for each channel. It says how many entries stand for the channel.
 #[derive(Clone, Copy)]
-pub(crate) enum Counting {
-    Counted,
-    Refused(Refusal),
+pub(crate) struct Loads {
+    counts: [u16; 256],
 }
 
-// A counter for each channel. The callers' proofs need not see the 256 zeros.
-pub(crate) fn counters() -> [u16; 256]
-    ensures value { 256 ≡ length result }
-    ensures at_most { AtMost 0 result }
-{
-    [0; 256]
+impl Loads {
+    // The load of every channel: one pass over what is lent.
+    #[tactic(auto, using(crate::proofs::Loaded::of_loads))]
+    pub(crate) fn of(sequences: &[u8], channels: usize) -> Result<Loads, Refusal>
+        ensures { said_loads result ≡ lent_loads sequences.now channels }
+    {
+        let many = sequences.len() / 33;
+        if sequences.len() % 33 != 0 {
+            return Err(Refusal::Short(33 * many));
+        }
+        if 64 < many || 16 < channels {
+            return Err(Refusal::TooMany);
+        }
+        Loads::counted(sequences)
+    }
+
+    pub(crate) fn of_channel(&self, channel: u8) -> u16
+        ensures { result ≡ load_by self.now channel }
+    {
+        self.counts[usize::from(channel)]
+    }
+
+    pub(crate) fn judge(&self, permitted: &[u8], proposal: u8) -> Result<(), Refusal>
+        ensures { told result ≡ judged_by (load_by self.now) permitted.now proposal }
+    {
+        let own = self.least(permitted)?;
+        if !permitted.contains(&proposal) {
+            return Err(Refusal::NotPermitted);
+        }
+        if self.of_channel(own) < self.of_channel(proposal) {
+            return Err(Refusal::SmallerLoad(own));
+        }
+        Ok(())
+    }
+
+    // The first of the channels with the smallest load. None is below it, so that a proposal is held against it alone.
+    pub(crate) fn least(&self, permitted: &[u8]) -> Result<u8, Refusal>
+        ensures { told result ≡ proposed_by (load_by self.now) permitted.now }
+    {
+        permitted
+            .iter()
+            .copied()
+            .min_by_key(|channel| self.of_channel(*channel))
+            .ok_or(Refusal::NonePermitted)
+    }
+
+    // One pass over all sequences, which ends at an encoding that is not listed.
+    fn counted(sequences: &[u8]) -> Result<Loads, Refusal>
+        requires { length sequences.now / 33 ≤ 64 }
+        ensures { said_loads result ≡ counted (whole_sequences sequences.now) }
+    {
+        let mut loads = Loads { counts: [0; 256] };
+        for sequence in sequences.chunks_exact(33) {
+            let encoding = ChannelEncoding::try_from(sequence[0])?;
+            loads.count_sequence(encoding, &sequence[1..]);
+        }
+        Ok(loads)
+    }
+
+    // The sixteen entries of one sequence.
+    fn count_sequence(&mut self, encoding: ChannelEncoding, bytes: &[u8])
+        requires at_most { AtMost 1024 self.old }
+        requires bytes_len { length bytes.now ≡ 32 }
+        ensures { Grown self.old (λ channel. count channel (channels_from encoding bytes.now 0 16)) self.new }
+    {
+        for n in 0..16 {
+            self.count(corrected_entry(encoding, bytes, n));
+        }
+    }
+
+    fn count(&mut self, channel: u8)
+        requires { load_by self.old channel < 65535 }
+        ensures { Grown self.old (λ c. count c (channel ∷ [])) self.new }
+    {
+        self.counts[usize::from(channel)] += 1;
+    }
 }
 
 // The channel that an entry stands for.
-fn corrected_entry(known: ChannelEncoding, bytes: &[u8], n: usize) -> u8
+fn corrected_entry(encoding: ChannelEncoding, bytes: &[u8], n: usize) -> u8
     requires bytes_len { length bytes.now ≡ 32 }
     requires n_bound { n < 16 }
-    ensures { result ≡ corrected_entry known (entry_bytes known n bytes.now) }
+    ensures { result ≡ corrected_entry encoding (entry_bytes encoding n bytes.now) }
 {
-    match known {
-        ChannelEncoding::Simple => known.corrected(bytes[n], 0),
-        ChannelEncoding::Legacy => known.corrected(bytes[2 * n], bytes[2 * n + 1]),
-        ChannelEncoding::OpClass => known.corrected(bytes[2 * n], bytes[2 * n + 1]),
+    match encoding {
+        ChannelEncoding::Simple => encoding.corrected(bytes[n], 0),
+        ChannelEncoding::Legacy | ChannelEncoding::OpClass => {
+            encoding.corrected(bytes[2 * n], bytes[2 * n + 1])
+        }
     }
-}
-
-fn count_one(counts: &mut [u16], channel: u8)
-    requires counts_len { length counts.old ≡ 256 }
-    requires channel_bound { get_or counts.old channel 0 < 65535 }
-    ensures { Grown counts.old (λ c. count c (channel ∷ [])) counts.new }
-{
-    counts[channel as usize] += 1;
-}
-
-// The sixteen entries of one sequence.
-fn count_entries(counts: &mut [u16], known: ChannelEncoding, bytes: &[u8])
-    requires counts_len { length counts.old ≡ 256 }
-    requires at_most { AtMost 1024 counts.old }
-    requires bytes_len { length bytes.now ≡ 32 }
-    ensures { Grown counts.old (λ channel. count channel (channels_from known bytes.now 0 16)) counts.new }
-{
-    let mut i = 0;
-    while i < 16 {
-        count_one(counts, corrected_entry(known, bytes, i));
-        i += 1;
-    }
-}
-
-// One pass over all sequences, which ends at an encoding that is not listed: whether there is none.
-fn count_all(counts: &mut [u16], sequences: &[u8]) -> bool
-    requires counts_len { length counts.old ≡ 256 }
-    requires at_most { AtMost 0 counts.old }
-    requires sequences_len_bound { length sequences.now / 33 ≤ 64 }
-    ensures { CountedAll (sequences_from (length sequences.now / 33) sequences.now) counts.old result counts.new }
-{
-    let mut left = sequences.len() / 33;
-    let mut at = 0;
-    while 0 < left {
-        let FoundEncoding::Known(known) = ChannelEncoding::from_bits(sequences[at]) else {
-            return false;
-        };
-        count_entries(counts, known, &sequences[at + 1..at + 33]);
-        at += 33;
-        left -= 1;
-    }
-    true
-}
-
-// The load of every channel: one pass over what is lent.
-#[tactic(auto, using(crate::proofs::Loaded::of_loads))]
-pub(crate) fn count_loads(sequences: &[u8], channels: usize, counts: &mut [u16]) -> Counting
-    requires counts_len { length counts.old ≡ 256 }
-    requires at_most { AtMost 0 counts.old }
-    ensures { said_counting result counts.new ≡ lent_loads sequences.now channels }
-{
-    let many = sequences.len() / 33;
-    if sequences.len() % 33 != 0 {
-        return Counting::Refused(Refusal::Short(33 * many));
-    }
-    if 64 < many || 16 < channels {
-        return Counting::Refused(Refusal::TooMany);
-    }
-    if count_all(counts, sequences) {
-        return Counting::Counted;
-    }
-    Counting::Refused(Refusal::Encoding)
 }
