@@ -12,7 +12,8 @@ fn digit(d: u64) -> u8
     b'0' + d as u8
 }
 
-// The last digit is found first, so the digits are gathered from the end of twenty places, which are enough for every number.
+// The last digit is found first, so the digits are gathered from the end of twenty places, which are enough for every number. `write!`
+// would promise them only where it succeeds, and no contract says that it does; `to_string` takes memory from a heap.
 pub fn put_decimal(buf: &mut [u8], at: usize, n: u64) -> usize
     ensures { Put buf.old at (decimal n) result buf.new }
 {
@@ -39,7 +40,7 @@ fn with_digit(n: u64, letter: u8) -> Option<u64>
     }
 }
 
-// Nothing but 1 to 20 digits is a number, and only one that fits.
+// Nothing but 1 to 20 digits is a number, and only one that fits. The library's `parse` takes a sign too, and any number of zeros.
 pub fn decimal_of(word: &[u8]) -> Option<u64>
     ensures { result ≡ decimal_of word.now }
 {
