@@ -19,7 +19,7 @@ use Rattle.channel_sequence.specs.declared.channel_sequence.ChannelSequence.{Cha
 use Rattle.channel_sequence.specs.Hops.{entry_bytes, entry_channel}
 use Rattle.channel_judge.specs.Loads.{sequences_from, lent_sequences, corrected_entry, channels_from, channels_of, count, load, is_listed, all_listed}
 use Rattle.channel_judge.specs.Judging.{loads, is_permitted, none_below, first, own, judged_by, judged_of, proposed_of, judged, proposed, load_in}
-use Rattle.channel_judge.proofs.Least.{and-swapped, smaller, least_from, own_of, decided-by-own}
+use Rattle.channel_judge.proofs.Least.{and-swapped, smaller, least_from, own-least, decided-by-own}
 use Rattle.promises.specs.WhichChannel.{CanJudge, Permitted, NoneSmaller, FirstLeast, Touches, Rearranged, as-they-stand, change-places, laid, AllWhole, none, one, WhichChannel}
 
 -- permitted by the test, and by a place
@@ -107,7 +107,7 @@ module _ (f : ℕ → ℕ) where
   own-found [] some = absurd (omega arith)
   own-found (b ∷ rest) some =
       let w = least-place b rest in
-      let least = rw (own_of f (b ∷ rest) some) at (own-none-below (b ∷ rest) some) in
+      let least = rw (own-least f b rest) at (own-none-below (b ∷ rest) some) in
       find (none_below f (b ∷ rest)) (b ∷ rest) w.place w.inside (rw w.stands least)
 
   front_above : (ps : List ℕ) → 0 < length ps → (c : ℕ) → none_below f ps c ≡ false → f (own f ps) < f c

@@ -71,9 +71,9 @@ pub record Demand1 : Type 1 where
   pub readers : {A : Type 0} (nothing : A) (at : ℕ) → Answering said refused (outcome_of nothing at) (refused_outcome nothing)
   pub calls : {A : Type 0} (nothing : A) → Answering told refusal (reply_of nothing) (refused_reply nothing)
   -- so of a number of each width and of an address that are read, and of a place and a size
-  pub number : (at : ℕ) → Answering said refused (outcome_of 0 at) (refused_outcome 0)
+  pub number : (at : ℕ) → Answering (said {A = ℕ}) refused (outcome_of 0 at) (refused_outcome 0)
   pub address : (at : ℕ) → Answering said refused (outcome_of zero_address at) (refused_outcome zero_address)
-  pub size : Answering told refusal (reply_of 0) (refused_reply 0)
+  pub size : Answering (told {A = ℕ}) refusal (reply_of 0) (refused_reply 0)
   -- of channels and their sequences
   pub encoding : Answering told refusal reply_encoding (refused_reply Simple)
   pub corrected : Answering told refusal reply_corrected (refused_reply 0)
@@ -94,7 +94,7 @@ pub record Demand1 : Type 1 where
   pub frame : Answering said refused outcome_frame (refused_outcome zero_frame)
   -- the end report, the search and the reading of a word refuse nothing
   pub end : Once said_end
-  pub found : {A : Type 0} → Once (said_found {A})
+  pub found : {A : Type 0} → Once (said_found {A = A})
   pub decimal : (word : List ℕ) (a b : Option ℕ) → a ≡ decimal_of word → b ≡ decimal_of word → a ≡ b
   pub put-said : (s : List ℕ) (at : ℕ) (word : Option (List ℕ)) (a b : Result ℕ HexError) (t u : List ℕ) → PutSaid s at word a t → PutSaid s at word b u → (a ≡ b) × (t ≡ u)
   pub same : (xs ys : List ℕ) (a b : Bool) → TellsSame xs ys a → TellsSame xs ys b → a ≡ b
