@@ -6,3 +6,5 @@ pub mod Optionals
 pub mod Right
 pub mod Sizes
 pub mod Zeros
+pub mod Mending
+pub mod RoundTrip
