@@ -99,7 +99,7 @@ module _ (load_of : ℕ → ℕ) where
           let stays : smaller b x ≡ b = rw e in
           same ∙ skipped least (none_below load_of (b ∷ rest) b) (none_below load_of (b ∷ rest) x) refl refl ∙ ap (λ (n : ℕ). own load_of (n ∷ rest)) (sym stays)
 
-  own-least : (b : ℕ) (rest : List ℕ) → own load_of (b ∷ rest) ≡ least_from b rest
+  pub own-least : (b : ℕ) (rest : List ℕ) → own load_of (b ∷ rest) ≡ least_from b rest
   own-least b [] = rw (le-leb (load_of b) (load_of b) (le_refl (load_of b)))
   own-least b (x ∷ rest) = own-of-two b x rest ∙ own-least (smaller b x) rest
 
