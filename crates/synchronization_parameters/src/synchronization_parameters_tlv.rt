@@ -93,14 +93,16 @@ impl SynchronizationParametersTLV {
     pub fn size(self) -> Result<usize, Refusal>
         ensures { told result ≡ size_of self }
     {
-        Ok(FIXED_SIZE + self.channel_sequence.size()?)
+        let n = self.channel_sequence.size()?;
+        Ok(FIXED_SIZE + n)
     }
 
     // What the writer goes by, settled before its first byte. A record with a legacy sequence has a size too, and is not written.
     pub fn written_size(self) -> Result<usize, Refusal>
         ensures { told result ≡ length_of (bytes_of self) }
     {
-        Ok(FIXED_SIZE + self.channel_sequence.written_size()?)
+        let n = self.channel_sequence.written_size()?;
+        Ok(FIXED_SIZE + n)
     }
 
     pub fn write(self, buf: &mut [u8]) -> Result<usize, Refusal>

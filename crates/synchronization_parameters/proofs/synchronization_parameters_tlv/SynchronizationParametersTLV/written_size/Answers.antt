@@ -5,9 +5,9 @@ use Rattle.channel_sequence_tlv.proofs.SequenceTLVs.{channel-sequence-written}
 use Rattle.synchronization_parameters.proofs.Sizes.{length-written}
 use Rattle.synchronization_parameters.proofs.synchronization_parameters_tlv.SynchronizationParametersTLV.written_size.Goals as goal
 
+pub returns : goal.returns
+returns c = sym (length-written c.args.self (sym c.in_ok-n.ensures))
+
 pub overflow_add-result : goal.overflow_add-result
 overflow_add-result c =
-    omega (arith, (channel-sequence-written c.args.self.channel_sequence (search rules) (sym c.in_ok-written_size.ensures)).few)
-
-pub returns : goal.returns
-returns c = sym (length-written c.args.self (sym c.in_ok-written_size.ensures))
+    omega (arith, (channel-sequence-written c.args.self.channel_sequence (search rules) (sym c.in_ok-n.ensures)).few)
