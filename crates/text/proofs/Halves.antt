@@ -42,13 +42,13 @@ halved high low rest {bytes} e = go (hex_byte_of high low) refl (hex_of rest) re
     go : (m : Option ℕ) → hex_byte_of high low ≡ m → (n : Option (List ℕ)) → hex_of rest ≡ n
         → (m >>= λ b. n >>= λ others. Some (b ∷ others)) ≡ Some bytes → Halved high low rest bytes
     go (Some b) p (Some others) q e = record { b = b; others = others; first = p; behind = q; all = cc }
-    go (Some b) p None q e = absurd (let z : ◌≡◌ {A = ℕ} 0 1 = cc in omega arith)
-    go None p n q e = absurd (let z : ◌≡◌ {A = ℕ} 0 1 = cc in omega arith)
+    go (Some b) p None q e = cc
+    go None p n q e = cc
 
 pub half : (word : List ℕ) {bytes : List ℕ} → hex_of word ≡ Some bytes → length word ≡ 2 * length bytes
 unfolding hex_of
 half [] {bytes} e = let same : [] ≡ bytes = cc in rw (← same)
-half (letter ∷ []) e = absurd (let z : ◌≡◌ {A = ℕ} 0 1 = cc in omega arith)
+half (letter ∷ []) e = cc
 half (high ∷ low ∷ rest) {bytes} e =
     let h = halved high low rest e in
     let more = half rest h.behind in
@@ -73,7 +73,7 @@ pair-in-front pair rest two {r} e f = rw (two-letters pair rest two, ← e) (go 
   where
     go : (r : Option ℕ) → is_some r ≡ true → meant (r >>= λ b. hex_of rest >>= λ others. Some (b ∷ others)) ≡ meant (hex_of rest)
     go (Some b) f = meant-more b (hex_of rest)
-    go None f = absurd (let z : ◌≡◌ {A = ℕ} 0 1 = cc in omega arith)
+    go None f = cc
 
 pub none-in-front : (pair rest : List ℕ) → length pair ≡ 2 → {r : Option ℕ} → r ≡ hex_byte_of (get_or pair 0 0) (get_or pair 1 0) → is_some r ≡ false
     → hex_of (pair ++ rest) ≡ None
@@ -81,7 +81,7 @@ unfolding hex_of
 none-in-front pair rest two {r} e f = rw (two-letters pair rest two, ← e) (go r f)
   where
     go : (r : Option ℕ) → is_some r ≡ false → (r >>= λ b. hex_of rest >>= λ others. Some (b ∷ others)) ≡ None
-    go (Some b) f = absurd (let z : ◌≡◌ {A = ℕ} 0 1 = cc in omega arith)
+    go (Some b) f = cc
     go None f = refl
 
 pub left-over : (rest : List ℕ) → length rest < 2 → nat_eq (length rest % 2) 0 ≡ meant (hex_of rest)
@@ -97,8 +97,8 @@ bytes_in None = []
 
 pub said-bytes : (m : Option (List ℕ)) → meant m ≡ true → m ≡ Some (bytes_in m)
 said-bytes (Some bytes) e = refl
-said-bytes None e = absurd (let z : ◌≡◌ {A = ℕ} 0 1 = cc in omega arith)
+said-bytes None e = cc
 
 pub no-hex : (m : Option (List ℕ)) → meant m ≡ false → m ≡ None
-no-hex (Some bytes) e = absurd (let z : ◌≡◌ {A = ℕ} 0 1 = cc in omega arith)
+no-hex (Some bytes) e = cc
 no-hex None e = refl

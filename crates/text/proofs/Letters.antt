@@ -48,7 +48,7 @@ module _ (letter : ℕ) where
       go true p b q c r e = let same : letter - 48 ≡ d = cc in omega (arith, last_of 48 57 p)
       go false p true q c r e = let same : letter - 65 + 10 ≡ d = cc in omega (arith, last_of 65 70 q)
       go false p false q true r e = let same : letter - 97 + 10 ≡ d = cc in omega (arith, last_of 97 102 r)
-      go false p false q false r e = absurd (let z : ◌≡◌ {A = ℕ} 0 1 = cc in omega arith)
+      go false p false q false r e = cc
 
 -- the letter of a hex digit says that digit
 pub digit-again : (d : ℕ) → d < 16 → hex_digit_of (hex_digit d) ≡ Some d

@@ -42,5 +42,5 @@ in64-below (Some n) {m} e = go (ltb n (2 ^ 64)) refl e
   where
     go : (b : Bool) → ltb n (2 ^ 64) ≡ b → provided b n ≡ Some m → m < 2 ^ 64
     go true f e = let same : n ≡ m = cc in omega (arith, ltb-true n (2 ^ 64) f)
-    go false f e = absurd (let z : ◌≡◌ {A = ℕ} 0 1 = cc in omega arith)
-in64-below None e = absurd (let z : ◌≡◌ {A = ℕ} 0 1 = cc in omega arith)
+    go false f e = cc
+in64-below None e = cc

@@ -42,8 +42,8 @@ room-asked n s at r e = go (leb (at + n) (length s)) refl r e
   where
     go : (b : Bool) → leb (at + n) (length s) ≡ b → (r : Result ℕ Refusal) → told r ≡ place_of (field n s at) → b ≡ not (is_err r)
     go true q (Ok next) e = refl
-    go true q (Err why) e = absurd (let e' = rw q at e in let z : ◌≡◌ {A = ℕ} 0 1 = cc in omega arith)
-    go false q (Ok next) e = absurd (let e' = rw q at e in let z : ◌≡◌ {A = ℕ} 0 1 = cc in omega arith)
+    go true q (Err why) e = let e' = rw q at e in cc
+    go false q (Ok next) e = let e' = rw q at e in cc
     go false q (Err why) e = refl
 
 pub no-room : (n : ℕ) (s : List ℕ) (at : ℕ) (r : Result ℕ Refusal) → told r ≡ place_of (field n s at) → true ≡ is_err r → length s < at + n
