@@ -1,3 +1,2 @@
 pub mod Searches
-pub mod Beside
 pub mod Once

@@ -12,26 +12,18 @@ use Rattle.wire.specs.declared.refusal.Refusal.{Refusal}
 use Rattle.wire.specs.Reading.{Reading, Reader, read, refused}
 use Rattle.tlv_items.specs.declared.item.Item.{Item}
 use Rattle.tlv_items.specs.declared.item.Step.{Step}
-use Rattle.tlv_items.specs.Items.{step_at, value_of, step_value, value_at}
+use Rattle.tlv_items.specs.Items.{step_at, value_of}
 use Rattle.tlv_items.specs.Walk.{Ending, Walk, GivesItems, ends_whole, ends_cut, gives_item}
 use Rattle.tlvs.specs.Search.{Match, kept, matched, accepted, all_from, all_of, Search, found, nothing, behind_item, first_of, next_from, GivesRecords, ends_search, gives_record}
 use Rattle.tlv_items.proofs.Steps.{step-stands}
 use Rattle.tlv_items.proofs.Walks.{gives-walk-at, walk-goes}
 
--- what a step found, told by its case: the next place is behind the item, and fewer bytes are left from there
-step-behind : (s : List ℕ) (at : ℕ) {f : Step} {it : Item} {next : ℕ} → f ≡ step_at s at → f ≡ Step.Item it next → next ≡ behind_item it
-step-behind s at p q = let w = step-stands s at (sym p ∙ q) in omega arith
+-- where a step finds an item, the next place is behind it, and fewer bytes are left from there
+step-behind : (s : List ℕ) (at : ℕ) {it : Item} {next : ℕ} → Step.Item it next ≡ step_at s at → next ≡ behind_item it
+step-behind s at e = let w = step-stands s at (sym e) in omega arith
 
-pub step-told : (s : List ℕ) (at : ℕ) {f : Step} {it : Item} {next : ℕ} → f ≡ step_at s at → f ≡ Step.Item it next → Step.Item it next ≡ step_at s at
-step-told s at p q = sym q ∙ p
-
-pub step_less : (s : List ℕ) (at : ℕ) {f : Step} {it : Item} {next : ℕ} → f ≡ step_at s at → f ≡ Step.Item it next → length s - next < length s - at
-step_less s at p q = let w = step-stands s at (sym p ∙ q) in omega arith
-
--- and what stands at the place has the item's value
-value-here : (s : List ℕ) (at : ℕ) {f : Step} {it : Item} {next : ℕ} {value : List ℕ} → value ≡ value_at s at → f ≡ step_at s at → f ≡ Step.Item it next
-    → value ≡ value_of s it
-value-here s at v p q = v ∙ ap (step_value s) (sym p ∙ q)
+pub step_less : (s : List ℕ) (at : ℕ) {it : Item} {next : ℕ} → Step.Item it next ≡ step_at s at → length s - next < length s - at
+step_less s at e = let w = step-stands s at (sym e) in omega arith
 
 -- a step that ends the walk: it is no item
 abbrev pub Last : Step → Type 0
@@ -77,30 +69,30 @@ module _ {A : Type 0} (n : ℕ) (r : Reader A) (s : List ℕ) where
 
   -- Of a search that came from one place to another, with the same still to be found: it takes the record of the item there,
   -- or passes over the item, or ends where the walk does.
-  search-takes : (from at : ℕ) {f : Step} {it : Item} {next : ℕ} {a : A} → next_from n r s from ≡ next_from n r s at
-      → f ≡ step_at s at → f ≡ Step.Item it next → matched n r s it ≡ record { content = a; item = it } ∷ [] → found a it next ≡ next_from n r s from
-  search-takes from at {it = it} {a = a} same p q h = ap (found a it) (step-behind s at p q) ∙ sym (same ∙ ap first_of (all-item at (sym p ∙ q) h))
+  search-takes : (from at : ℕ) {it : Item} {next : ℕ} {a : A} → next_from n r s from ≡ next_from n r s at → Step.Item it next ≡ step_at s at
+      → matched n r s it ≡ record { content = a; item = it } ∷ [] → found a it next ≡ next_from n r s from
+  search-takes from at {it = it} {a = a} same e h = ap (found a it) (step-behind s at e) ∙ sym (same ∙ ap first_of (all-item at (sym e) h))
 
-  search-passes : (from at : ℕ) {f : Step} {it : Item} {next : ℕ} → next_from n r s from ≡ next_from n r s at
-      → f ≡ step_at s at → f ≡ Step.Item it next → matched n r s it ≡ [] → next_from n r s from ≡ next_from n r s next
-  search-passes from at same p q h = same ∙ ap first_of (all-item at (sym p ∙ q) h)
+  search-passes : (from at : ℕ) {it : Item} {next : ℕ} → next_from n r s from ≡ next_from n r s at → Step.Item it next ≡ step_at s at
+      → matched n r s it ≡ [] → next_from n r s from ≡ next_from n r s next
+  search-passes from at same e h = same ∙ ap first_of (all-item at (sym e) h)
 
   pub search-ends : (from at : ℕ) {last : Step} → next_from n r s from ≡ next_from n r s at → last ≡ step_at s at → Last last
       → nothing ≡ next_from n r s from
   search-ends from at {last} same p k = sym (same ∙ ap first_of (all-last at last (sym p) k))
 
   -- the same, by what a turn knows of the item and of its value
-  pub passes-other : (from at : ℕ) {next : ℕ} {f : Step} {it : Item} → f ≡ Step.Item it next → f ≡ step_at s at → next_from n r s from ≡ next_from n r s at
+  pub passes-other : (from at : ℕ) {next : ℕ} {it : Item} → Step.Item it next ≡ step_at s at → next_from n r s from ≡ next_from n r s at
       → (it.tlv_type ≡ n → ⊥) → next_from n r s from ≡ next_from n r s next
-  passes-other from at {it = it} q p same other = search-passes from at same p q (other-type it other)
+  passes-other from at {it = it} e same other = search-passes from at same e (other-type it other)
 
-  pub passes-refused : (from at : ℕ) {next : ℕ} {f : Step} {it : Item} {value : List ℕ} {why : Refusal} → f ≡ Step.Item it next → f ≡ step_at s at
-      → next_from n r s from ≡ next_from n r s at → value ≡ value_at s at → it.tlv_type ≡ n → r value 0 ≡ refused why → next_from n r s from ≡ next_from n r s next
-  passes-refused from at {it = it} q p same v type e = search-passes from at same p q (value-refused it type (value-here s at v p q) e)
+  pub passes-refused : (from at : ℕ) {next : ℕ} {it : Item} {value : List ℕ} {why : Refusal} → Step.Item it next ≡ step_at s at
+      → next_from n r s from ≡ next_from n r s at → it.tlv_type ≡ n → value ≡ value_of s it → refused why ≡ r value 0 → next_from n r s from ≡ next_from n r s next
+  passes-refused from at {it = it} e same type v refuses = search-passes from at same e (value-refused it type v (sym refuses))
 
-  pub takes-read : (from at : ℕ) {next : ℕ} {f : Step} {it : Item} {value : List ℕ} {a : A} {size : ℕ} → f ≡ Step.Item it next → f ≡ step_at s at
-      → next_from n r s from ≡ next_from n r s at → value ≡ value_at s at → it.tlv_type ≡ n → r value 0 ≡ read a size → found a it next ≡ next_from n r s from
-  takes-read from at {it = it} q p same v type e = search-takes from at same p q (value_read it type (value-here s at v p q) e)
+  pub takes-read : (from at : ℕ) {next : ℕ} {it : Item} {value : List ℕ} {a : A} {size : ℕ} → Step.Item it next ≡ step_at s at
+      → next_from n r s from ≡ next_from n r s at → it.tlv_type ≡ n → value ≡ value_of s it → read a size ≡ r value 0 → found a it next ≡ next_from n r s from
+  takes-read from at {it = it} e same type v reads = search-takes from at same e (value_read it type v (sym reads))
 
   one : (it : Item) → One it (matched n r s it)
   unfolding matched
@@ -128,11 +120,11 @@ module _ {A : Type 0} (n : ℕ) (r : Reader A) (s : List ℕ) where
       → (next_from n r s next' ≡ found a it next → Finds n r s next' a it next) → Finds n r s at a it next
   here-or-behind {at} e q passed x more =
       let w = step-stands s at q in
-      let rest = more (sym (search-passes at at refl refl q x) ∙ e) in
+      let rest = more (sym (search-passes at at refl (sym q) x) ∙ e) in
       record { ahead = omega arith; inside = rest.inside; all = all-item at q x ∙ rest.all }
   here-or-behind {at} {a} {it} {next} {it'} {next'} e q (took b) x more =
       let w = step-stands s at q in
-      let e' : found b it' next' ≡ found a it next = search-takes at at refl refl q x ∙ e in
+      let e' : found b it' next' ≡ found a it next = search-takes at at refl (sym q) x ∙ e in
       let same : b ≡ a = cc in
       let item : it' ≡ it = cc in
       let place : next' ≡ next = cc in

@@ -7,11 +7,7 @@ mod search;
 mod values;
 
 pub use read_tlvs::ReadTLVs;
-pub use search::{
-    Found, FoundChannelSequence, FoundDataPath, FoundSynchronization, first_channel_sequence,
-    first_data_path, first_synchronization, next_channel_sequence, next_data_path,
-    next_synchronization,
-};
+pub use search::{Found, Record};
 pub use tlv_items::{End, Item, Step, end, step, value, write_item};
 pub use values::{StepWithValue, step_with_value};
 pub use wire::AWDLTLVType;

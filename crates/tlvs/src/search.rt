@@ -1,163 +1,108 @@
-ghost use Rattle.std.specs.Prelude.{◌≡◌};
-ghost use Rattle.tlvs.specs.Search as Search;
-ghost use Rattle.tlvs.specs.Said.{said_found_data_path, synchronization_found, channel_sequence_found};
+ghost use Rattle.std.specs.Prelude.{◌≡◌, ℕ};
+ghost use Rattle.wire.specs.Reading.{Reader};
+ghost use Rattle.wire.specs.Said.{said};
+ghost use Rattle.channel_sequence_tlv.specs.SequenceTLVReader.{channel_sequence_record};
+ghost use Rattle.data_path_state.specs.DataPath.{data_path};
+ghost use Rattle.synchronization_parameters.specs.SynchronizationReader.{synchronization};
+ghost use Rattle.tlvs.specs.Search.{next_from};
+ghost use Rattle.tlvs.specs.Said.{said_found};
 
-use crate::values::value_at;
+use crate::read_tlvs::ReadTLVs;
 use channel_sequence_tlv::ChannelSequenceTLV;
-use data_path_state::{DataPathStateTLV, ReadDataPathState};
+use data_path_state::DataPathStateTLV;
 use synchronization_parameters::SynchronizationParametersTLV;
-use tlv_items::{Item, Step, step};
-use wire::Place;
+use tlv_items::{Item, Step, step, value};
+use wire::Refusal;
 
 // The next record of a type, its item, and the place behind that item, from which a caller goes on.
-#[derive(Clone, Copy)]
-pub enum FoundDataPath {
-    Found(DataPathStateTLV, Item, usize),
-    // No such item.
-    Nothing,
+#[derive(Clone, Copy, Debug, PartialEq, Eq, Hash)]
+pub struct Found<R> {
+    pub record: R,
+    pub item: Item,
+    pub behind: usize,
 }
 
-#[derive(Clone, Copy)]
-pub enum Found {
-    At(Item, usize),
-    // No such item.
-    Nothing,
-}
+// A record that stands in the values of one type of items, and the search for it.
+pub trait Record: Copy {
+    ghost TYPE_NUMBER: { ℕ };
 
-// An enum cannot hold an array, and these records do: the enum stands beside the record, which is the zero one where there is
-// no such item.
-#[derive(Clone, Copy)]
-pub struct FoundSynchronization {
-    pub found: Found,
-    pub parameters: SynchronizationParametersTLV,
-}
+    ghost format: { Reader Self };
 
-#[derive(Clone, Copy)]
-pub struct FoundChannelSequence {
-    pub found: Found,
-    pub channels: ChannelSequenceTLV,
-}
+    const TYPE_NUMBER: u8;
 
-// Each turn looks at one item, and passes over it where it is of another type or its value is refused. The search ends where
-// the walk does, whole or cut.
-#[tactic(auto, using(crate::proofs::Searches::turns))]
-pub fn next_data_path(tail: &[u8], from: usize) -> FoundDataPath
-    ensures { said_found_data_path result ≡ Search.next_data_path tail.now from }
-{
-    let mut at = from;
-    loop {
-        let found = step(tail, at);
-        let Step::Item(item, behind_item) = found else {
-            return FoundDataPath::Nothing;
-        };
-        let value = value_at(tail, at, found);
-        at = behind_item;
-        if item.tlv_type != DataPathStateTLV::TLV_TYPE {
-            continue;
+    fn read_value(value: &[u8]) -> Result<(Self, usize), Refusal>
+        ensures { said result ≡ format value.now 0 };
+
+    // Each turn looks at one item, and passes over it where it is of another type or its value is refused. The search ends where
+    // the walk does, whole or cut.
+    #[tactic(auto, using(crate::proofs::Searches::turns))]
+    fn next(tail: &[u8], from: usize) -> Option<Found<Self>>
+        ensures { said_found result ≡ next_from TYPE_NUMBER format tail.now from }
+    {
+        let mut at = from;
+        while let Step::Item(item, behind) = step(tail, at) {
+            at = behind;
+            if item.tlv_type != Self::TYPE_NUMBER {
+                continue;
+            }
+            let Ok((record, _)) = Self::read_value(value(tail, item)) else {
+                continue;
+            };
+            return Some(Found {
+                record,
+                item,
+                behind,
+            });
         }
-        let ReadDataPathState::Read(record, _) = DataPathStateTLV::read(value) else {
-            continue;
-        };
-        return FoundDataPath::Found(record, item, behind_item);
+        None
+    }
+
+    fn first(tail: &[u8]) -> Option<Found<Self>>
+        ensures { said_found result ≡ next_from TYPE_NUMBER format tail.now 0 }
+    {
+        Self::next(tail, 0)
+    }
+
+    // The first record from the reader's place on.
+    fn first_in(reader: ReadTLVs<'_>) -> Option<Found<Self>>
+        ensures { said_found result ≡ next_from TYPE_NUMBER format reader.entry.bytes.now reader.entry.at }
+    {
+        Self::next(reader.bytes, reader.at)
     }
 }
 
-pub fn first_data_path(tail: &[u8]) -> FoundDataPath
-    ensures { said_found_data_path result ≡ Search.next_data_path tail.now 0 }
-{
-    next_data_path(tail, 0)
-}
+impl Record for DataPathStateTLV {
+    ghost TYPE_NUMBER = { 0x0C };
 
-// The answer of a search that has come to its end. The reader gives the zero record where it refuses, and it refuses a value
-// of no bytes.
-#[tactic(auto, unfolding(synchronization_parameters::specs::SynchronizationReader::synchronization))]
-fn no_synchronization() -> FoundSynchronization
-    ensures { result ≡ synchronization_found Search.nothing }
-{
-    let refused = SynchronizationParametersTLV::read(b"");
-    let parameters = refused.parameters;
-    FoundSynchronization {
-        found: Found::Nothing,
-        parameters,
+    ghost format = { data_path };
+
+    const TYPE_NUMBER: u8 = DataPathStateTLV::TLV_TYPE;
+
+    fn read_value(value: &[u8]) -> Result<(DataPathStateTLV, usize), Refusal> {
+        DataPathStateTLV::read(value)
     }
 }
 
-#[tactic(auto, using(crate::proofs::Searches::turns))]
-pub fn next_synchronization(tail: &[u8], from: usize) -> FoundSynchronization
-    ensures { result ≡ synchronization_found (Search.next_synchronization tail.now from) }
-{
-    let mut at = from;
-    loop {
-        let found = step(tail, at);
-        let Step::Item(item, behind_item) = found else {
-            return no_synchronization();
-        };
-        let value = value_at(tail, at, found);
-        at = behind_item;
-        if item.tlv_type != SynchronizationParametersTLV::TLV_TYPE {
-            continue;
-        }
-        let read = SynchronizationParametersTLV::read(value);
-        let answer = read.answer;
-        let Place::At(_) = answer else {
-            continue;
-        };
-        let parameters = read.parameters;
-        return FoundSynchronization {
-            found: Found::At(item, behind_item),
-            parameters,
-        };
+impl Record for SynchronizationParametersTLV {
+    ghost TYPE_NUMBER = { 0x04 };
+
+    ghost format = { synchronization };
+
+    const TYPE_NUMBER: u8 = SynchronizationParametersTLV::TLV_TYPE;
+
+    fn read_value(value: &[u8]) -> Result<(SynchronizationParametersTLV, usize), Refusal> {
+        SynchronizationParametersTLV::read(value)
     }
 }
 
-pub fn first_synchronization(tail: &[u8]) -> FoundSynchronization
-    ensures { result ≡ synchronization_found (Search.next_synchronization tail.now 0) }
-{
-    next_synchronization(tail, 0)
-}
+impl Record for ChannelSequenceTLV {
+    ghost TYPE_NUMBER = { 0x12 };
 
-#[tactic(auto, unfolding(channel_sequence_tlv::specs::SequenceTLVReader::channel_sequence_record))]
-fn no_channel_sequence() -> FoundChannelSequence
-    ensures { result ≡ channel_sequence_found Search.nothing }
-{
-    let refused = ChannelSequenceTLV::read(b"", 0);
-    let channels = refused.channels;
-    FoundChannelSequence {
-        found: Found::Nothing,
-        channels,
+    ghost format = { channel_sequence_record };
+
+    const TYPE_NUMBER: u8 = ChannelSequenceTLV::TLV_TYPE;
+
+    fn read_value(value: &[u8]) -> Result<(ChannelSequenceTLV, usize), Refusal> {
+        ChannelSequenceTLV::read(value, 0)
     }
-}
-
-#[tactic(auto, using(crate::proofs::Searches::turns))]
-pub fn next_channel_sequence(tail: &[u8], from: usize) -> FoundChannelSequence
-    ensures { result ≡ channel_sequence_found (Search.next_channel_sequence tail.now from) }
-{
-    let mut at = from;
-    loop {
-        let found = step(tail, at);
-        let Step::Item(item, behind_item) = found else {
-            return no_channel_sequence();
-        };
-        let value = value_at(tail, at, found);
-        at = behind_item;
-        if item.tlv_type != ChannelSequenceTLV::TLV_TYPE {
-            continue;
-        }
-        let read = ChannelSequenceTLV::read(value, 0);
-        let answer = read.answer;
-        let Place::At(_) = answer else {
-            continue;
-        };
-        let channels = read.channels;
-        return FoundChannelSequence {
-            found: Found::At(item, behind_item),
-            channels,
-        };
-    }
-}
-
-pub fn first_channel_sequence(tail: &[u8]) -> FoundChannelSequence
-    ensures { result ≡ channel_sequence_found (Search.next_channel_sequence tail.now 0) }
-{
-    next_channel_sequence(tail, 0)
 }
