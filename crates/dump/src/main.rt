@@ -2,10 +2,11 @@
 // launcher looks for it, and the exit status is then 1.
 #![tactic(auto)]
 
-ghost use Rattle.std.specs.Prelude.{◌≤◌, ◌<◌, ◌≡◌, length};
+ghost use Rattle.std.specs.Prelude.{◌<◌, ◌≡◌, length, IfOk};
 ghost use Rattle.std.specs.Counts.{IsPrefixLen};
 
-use report::{Line, Mark};
+use report::Mark;
+use std::io;
 use std::io::{Read, Stdin, Stdout};
 use std::process::ExitCode;
 
@@ -16,61 +17,34 @@ fn room() -> [u8; 4097]
     [0; 4097]
 }
 
-// How many bytes have been read, and whether the last read failed.
-#[derive(Drop)]
-struct Input {
-    n: usize,
-    failed: bool,
-}
-
-fn read_more(mut stdin: Stdin, space: &mut [u8], at: usize) -> Input
-    requires { at ≤ length space.old }
-    ensures at_le_n { at ≤ result.n }
-    ensures n_in_bounds { result.n ≤ length space.new }
-{
-    match stdin.read(&mut space[at..]) {
-        Ok(n) => Input {
-            n: at + n,
-            failed: false,
-        },
-        Err(_) => Input {
-            n: at,
-            failed: true,
-        },
-    }
-}
-
-// Reads until the input ends, the space is full or a read fails: each of these brings no byte.
-fn read_input(stdin: Stdin, space: &mut [u8]) -> Input
-    ensures { IsPrefixLen result.n space.new }
+// Reads until the input ends or the space is full: each of these brings no byte.
+fn read_input(mut stdin: Stdin, space: &mut [u8]) -> io::Result<usize>
+    ensures { IfOk result (λ n. IsPrefixLen n space.new) }
 {
     let mut at = 0;
     loop {
-        let input = read_more(stdin, space, at);
-        if input.n == at {
-            return input;
+        let n = stdin.read(&mut space[at..])?;
+        if n == 0 {
+            return Ok(at);
         }
-        at = input.n;
+        at += n;
     }
 }
 
-// Whether every line was written. It stops at the first that was not.
-fn show(stdout: Stdout, input: &[u8], mark: Mark) -> bool {
+// It stops at the first line that is not written.
+fn show(stdout: Stdout, input: &[u8], mark: Mark) -> io::Result<()> {
     let mut line = [0u8; 128];
     let mut at = mark;
-    loop {
-        let Line::Text(n, next) = report::next_line(input, at, &mut line) else {
-            return true;
-        };
-        if stdout.write_all(&line[..n]).is_err() {
-            return false;
-        }
+    while let Some((n, next)) = report::next_line(input, at, &mut line) {
+        stdout.write_all(&line[..n])?;
         at = next;
     }
+    Ok(())
 }
 
-// What was read is the whole input, or it is too long: the space has more room than the longest frame takes.
-fn dump(stdout: Stdout, space: &[u8], n: usize) -> bool
+// What was read is the whole input, or it is too long: the space has more room than the longest frame takes. The number stands beside
+// the space, and no part of it is passed alone, since it is the space of which this is asked.
+fn dump(stdout: Stdout, space: &[u8], n: usize) -> io::Result<()>
     requires in_bounds { 4096 < length space.now }
     requires prefix_len { IsPrefixLen n space.now }
 {
@@ -78,16 +52,17 @@ fn dump(stdout: Stdout, space: &[u8], n: usize) -> bool
     show(stdout, input, report::dump_start(input))
 }
 
-fn main(rt: HostRuntime) -> ExitCode {
+// What is said where it fails. Nothing is shown of an input that could not be read to its end.
+fn run(rt: &HostRuntime) -> Result<(), &'static str> {
     let mut space = room();
-    let input = read_input(rt.stdin(), &mut space);
-    if input.failed {
-        let _ = rt.stderr().write_all(b"cannot read the input\n");
-        return ExitCode::FAILURE;
-    }
-    if !dump(rt.stdout(), &space, input.n) {
-        let _ = rt.stderr().write_all(b"cannot write\n");
-        return ExitCode::FAILURE;
-    }
-    ExitCode::SUCCESS
+    let n = read_input(rt.stdin(), &mut space).map_err(|_| "cannot read the input\n")?;
+    dump(rt.stdout(), &space, n).map_err(|_| "cannot write\n")
+}
+
+fn main(rt: HostRuntime) -> ExitCode {
+    let Err(message) = run(&rt) else {
+        return ExitCode::SUCCESS;
+    };
+    let _ = rt.stderr().write_all(message.as_bytes());
+    ExitCode::FAILURE
 }

@@ -7,6 +7,7 @@ use mathlib.Core.Bool.{Bool, true, false, cond}
 use mathlib.Core.List.{List}
 use lib.Dec.{eqb, leb}
 use lib.ListN.{length, drop, length-append}
+use Rattle.std.specs.Prelude.{Option, Some}
 use Rattle.wire.specs.Reading.{Reading, read, refused}
 use Rattle.tlv_items.specs.declared.item.Item.{Item}
 use Rattle.tlv_items.specs.declared.item.Step.{Step}
@@ -15,7 +16,6 @@ use Rattle.tlv_items.proofs.Steps.{step-stands}
 use Rattle.action_frame.specs.declared.AWDLActionFrame.{AWDLActionFrame}
 use Rattle.action_frame.specs.Frames.{header, tail_of}
 use Rattle.report.specs.declared.marks.Mark.{Mark}
-use Rattle.report.specs.declared.marks.Line.{Line}
 use Rattle.report.specs.Marks.{Stand, line, nothing, at_header, at_step, mark_behind, stands_at}
 use Rattle.report.specs.Shown.{answer_of, buffer_of, Shows}
 
@@ -68,21 +68,24 @@ module _ (frame : List ℕ) where
   nearer (Mark.Synchronization it next items) = omega arith
   nearer Mark.End = tt
 
-  module _ (m : Mark) {s : List ℕ} {r : Line} {t : List ℕ} {n : ℕ} {next : Mark} (shown : Shows s (stands_at frame m) r t) (e : r ≡ Line.Text n next) where
+  module _ (m : Mark) {s : List ℕ} {r : Option (ℕ × Mark)} {t : List ℕ} {n : ℕ} {next : Mark} (shown : Shows s (stands_at frame m) r t) (e : r ≡ Some (n, next)) where
     -- what a call that showed a line answers is nearer to the end, and the line lies within the buffer
     pub line-nearer : ahead frame next < ahead frame m
     line-nearer = go (stands_at frame m) (sym shown.answer ∙ e) (nearer m)
       where
-        go : (stand : Stand) → answer_of stand ≡ Line.Text n next → Nearer frame (ahead frame m) stand → ahead frame next < ahead frame m
-        go (line l next') q h = let same : next' ≡ next = cc in rw same at h
-        go nothing q h = absurd (let z : ◌≡◌ {A = ℕ} 0 1 = cc in omega arith)
+        go : (stand : Stand) → answer_of stand ≡ Some (n, next) → Nearer frame (ahead frame m) stand → ahead frame next < ahead frame m
+        go (line l next') q h =
+            let both : ◌≡◌ {A = ℕ × Mark} (length l, next') (n, next) = cc in
+            rw (ap (λ (p : ℕ × Mark). p.1) both) at h
+        go nothing q h = cc
 
     pub line-inside : n ≤ length t
     line-inside = go (stands_at frame m) (sym shown.answer ∙ e) shown.buffer
       where
-        go : (stand : Stand) → answer_of stand ≡ Line.Text n next → t ≡ buffer_of s stand → n ≤ length t
+        go : (stand : Stand) → answer_of stand ≡ Some (n, next) → t ≡ buffer_of s stand → n ≤ length t
         go (line l next') q b =
-            let size : length l ≡ n = cc in
+            let both : ◌≡◌ {A = ℕ × Mark} (length l, next') (n, next) = cc in
+            let size : length l ≡ n = ap (λ (p : ℕ × Mark). p.0) both in
             let all = ap length b ∙ length-append l (drop (length l) s) in
             omega arith
-        go nothing q b = absurd (let z : ◌≡◌ {A = ℕ} 0 1 = cc in omega arith)
+        go nothing q b = cc

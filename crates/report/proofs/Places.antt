@@ -5,13 +5,13 @@ use mathlib.Core.Path.{◌≡◌}
 use mathlib.Core.List.{List}
 use lib.ListN.{length}
 use borrow.Author.Tests.{le-leb, lt-leb}
+use Rattle.std.specs.Prelude.{None}
 use Rattle.tlv_items.specs.declared.item.Step.{Step}
 use Rattle.tlv_items.specs.Items.{step_at}
-use Rattle.report.specs.declared.marks.Line.{Line}
 use Rattle.report.specs.Marks.{Stand, nothing, at_step, at_place}
 use Rattle.report.specs.Shown.{Shows}
 
-pub no_line : {s : List ℕ} {stand : Stand} → stand ≡ nothing → Shows s stand Line.Nothing s
+pub no_line : {s : List ℕ} {stand : Stand} → stand ≡ nothing → Shows s stand None s
 no_line e = record { answer = rw e; buffer = rw e }
 
 module _ (tail : List ℕ) (at items : ℕ) where

@@ -89,8 +89,8 @@ module _ (frame : List ℕ) where
   -- no other lines are given
   pub gives-once : {m : Mark} {xs ys : List (List ℕ)} → GivesLines frame m xs → GivesLines frame m ys → xs ≡ ys
   gives-once (done e) (done f) = refl
-  gives-once (done e) (more f h) = absurd (let q = sym e ∙ f in let z : ◌≡◌ {A = ℕ} 0 1 = cc in omega arith)
-  gives-once (more e g) (done f) = absurd (let q = sym e ∙ f in let z : ◌≡◌ {A = ℕ} 0 1 = cc in omega arith)
+  gives-once (done e) (more f h) = let q = sym e ∙ f in cc
+  gives-once (more e g) (done f) = let q = sym e ∙ f in cc
   gives-once (more {next = n₁} {l = l₁} e g) (more {next = n₂} {l = l₂} {rest = ys} f h) =
       let q = sym e ∙ f in
       let same : l₁ ≡ l₂ = cc in

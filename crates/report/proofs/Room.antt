@@ -5,10 +5,10 @@ use native.Mathlib.Omega.{arith}
 use mathlib.Core.Path.{◌≡◌, ap}
 use mathlib.Core.List.{List, ◌++◌}
 use lib.ListN.{length, length-append}
+use Rattle.std.specs.Prelude.{Some}
 use Rattle.wire.specs.Writing.{Put}
 use Rattle.wire.proofs.Stores.{put-fits, put_then, put_all}
 use Rattle.report.specs.declared.marks.Mark.{Mark}
-use Rattle.report.specs.declared.marks.Line.{Line}
 use Rattle.report.specs.Marks.{Stand, line}
 use Rattle.report.specs.Shown.{PutWithRoom, Shows}
 
@@ -33,8 +33,8 @@ room-put p h = record { put = p; room = h }
 
 -- a line from the buffer's start is what is shown of what stands at a mark
 pub shows-line : {s : List ℕ} {stand : Stand} {l : List ℕ} {n : ℕ} {next : Mark} {t : List ℕ} → stand ≡ line l next → PutWithRoom s 0 l n t
-    → Shows s stand (Line.Text n next) t
+    → Shows s stand (Some (n, next)) t
 shows-line {s} {stand} {l} {n} {next} {t} e p =
     let room = p.room in
     let all = put_all p.put (omega arith) in
-    record { answer = rw e (ap (λ k. Line.Text k next) all.0); buffer = rw e all.1 }
+    record { answer = rw e (ap (λ (k : ℕ). Some (k, next)) all.0); buffer = rw e all.1 }

@@ -5,4 +5,4 @@ mod lines;
 mod marks;
 mod put;
 
-pub use marks::{Line, Mark, dump_start, next_line};
+pub use marks::{Mark, dump_start, next_line};

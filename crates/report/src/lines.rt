@@ -7,25 +7,8 @@ ghost use Rattle.report.specs.Shown.{PutWithRoom};
 use crate::put::{put_named, put_text};
 use action_frame::{AWDLActionFrame, tx_delta};
 
-// Each of these is a cast: a call's contract gives its callers the equation that a cast would have them prove.
-pub(crate) fn of_u8(x: u8) -> u64
-    ensures { result ≡ x }
-{
-    x as u64
-}
-
-pub(crate) fn of_u16(x: u16) -> u64
-    ensures { result ≡ x }
-{
-    x as u64
-}
-
-pub(crate) fn of_u32(x: u32) -> u64
-    ensures { result ≡ x }
-{
-    x as u64
-}
-
+// The library converts no `usize` to a `u64` by `From`, so this is a cast. The contract gives its callers the equation that they would
+// have to prove of it.
 pub(crate) fn of_usize(x: usize) -> u64
     ensures { result ≡ x }
 {
@@ -33,19 +16,17 @@ pub(crate) fn of_usize(x: usize) -> u64
 }
 
 // A line of a word and a number.
-pub(crate) fn one_number(out: &mut [u8], word: &[u8], n: u64) -> usize
-    requires in_bounds { 128 ≤ length out.old }
-    requires word_len_bound { length word.now ≤ 20 }
+pub(crate) fn one_number(out: &mut [u8; 128], word: &[u8], n: u64) -> usize
+    requires { length word.now ≤ 20 }
     ensures { PutWithRoom out.old 0 (word.now ++ decimal n ++ text "\n") result out.new }
 {
-    let behind_number = put_named(out, 0, word, n);
-    put_text(out, behind_number, b"\n")
+    let at = put_named(out, 0, word, n);
+    put_text(out, at, b"\n")
 }
 
 // A line of two.
-pub(crate) fn two_numbers(out: &mut [u8], first: &[u8], m: u64, second: &[u8], n: u64) -> usize
-    requires in_bounds { 128 ≤ length out.old }
-    requires second_len_bound { length first.now + length second.now ≤ 40 }
+pub(crate) fn two_numbers(out: &mut [u8; 128], first: &[u8], m: u64, second: &[u8], n: u64) -> usize
+    requires { length first.now + length second.now ≤ 40 }
     ensures { PutWithRoom out.old 0 (first.now ++ decimal m ++ (second.now ++ decimal n) ++ text "\n") result out.new }
 {
     let behind_first = put_named(out, 0, first, m);
@@ -55,31 +36,26 @@ pub(crate) fn two_numbers(out: &mut [u8], first: &[u8], m: u64, second: &[u8], n
 
 // The line's start: 27 characters and three numbers of at most twenty digits. It stands apart from the gap because the search for a
 // bound looks back over so many steps only, and four numbers in one function take more.
-fn put_header_fields(out: &mut [u8], f: AWDLActionFrame) -> usize
-    requires { 128 ≤ length out.old }
+fn put_header_fields(out: &mut [u8; 128], f: AWDLActionFrame) -> usize
     ensures put_with_room { PutWithRoom out.old 0 (header_fields f) result out.new }
     ensures upper_bound { result ≤ 87 }
 {
-    let phy = f.phy_tx_time;
-    let target = f.target_tx_time;
-    let behind_subtype = put_named(out, 0, b"frame subtype=", of_u8(f.subtype));
-    let behind_phy = put_named(out, behind_subtype, b" phy=", of_u32(phy.0));
-    put_named(out, behind_phy, b" target=", of_u32(target.0))
+    let behind_subtype = put_named(out, 0, b"frame subtype=", u64::from(f.subtype));
+    let behind_phy = put_named(out, behind_subtype, b" phy=", u64::from(f.phy_tx_time.0));
+    put_named(out, behind_phy, b" target=", u64::from(f.target_tx_time.0))
 }
 
-pub(crate) fn header(out: &mut [u8], f: AWDLActionFrame) -> usize
-    requires { 128 ≤ length out.old }
+pub(crate) fn header(out: &mut [u8; 128], f: AWDLActionFrame) -> usize
     ensures { PutWithRoom out.old 0 (header_line f) result out.new }
 {
     let behind_fields = put_header_fields(out, f);
-    let gap = of_u32(tx_delta(f.phy_tx_time, f.target_tx_time));
+    let gap = u64::from(tx_delta(f.phy_tx_time, f.target_tx_time));
     let behind_delta = put_named(out, behind_fields, b" delta=", gap);
     put_text(out, behind_delta, b"\n")
 }
 
 // The place is counted from the start of the frame.
-pub(crate) fn item(out: &mut [u8], place: u64, tlv_type: u64, len: u64) -> usize
-    requires { 128 ≤ length out.old }
+pub(crate) fn item(out: &mut [u8; 128], place: u64, tlv_type: u64, len: u64) -> usize
     ensures { PutWithRoom out.old 0 (named "item at=" place ++ named " type=" tlv_type ++ named " length=" len ++ text "\n") result out.new }
 {
     let behind_place = put_named(out, 0, b"item at=", place);
