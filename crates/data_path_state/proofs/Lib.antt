@@ -8,3 +8,4 @@ pub mod Sizes
 pub mod Zeros
 pub mod Mending
 pub mod RoundTrip
+pub mod Laid
