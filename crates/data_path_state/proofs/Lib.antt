@@ -9,3 +9,6 @@ pub mod Zeros
 pub mod Mending
 pub mod RoundTrip
 pub mod Laid
+pub mod ReadConsistent
+pub mod FromBytes
+pub mod Again
