@@ -47,6 +47,7 @@ use Rattle.exports.specs.Sequences as X
 use Rattle.exports.specs.Synchronizations.{synchronization_numbers, synchronization_largest, synchronization_of, synchronization_in}
 use Rattle.exports.specs.Told.{ToldReading, ToldNumber, ToldPlaced, ToldRecord, ToldWriting, ToldHop}
 use Rattle.exports.proofs.Fits.{fits-at, both}
+use Rattle.promises.specs.Legacy.{with_sequence, with_its_sequence}
 use Rattle.promises.specs.OtherLanguages.{RefusesLarge, AsNumbers, Asks, AsksByte, ChannelInWidth, DataPathInWidth, EntryInWidth, OtherLanguages}
 
 -- a test that fails refuses
@@ -144,35 +145,6 @@ data-path-there r =
       stats = (optional-there r.stats) i;
     }
 
--- a record with another sequence
-abbrev channel_sequence_with : ChannelSequenceTLV → ChannelSequence → ChannelSequenceTLV
-channel_sequence_with c q = record { duplicate_count = c.duplicate_count; step_count = c.step_count; fill_channel = c.fill_channel; channel_sequence = q }
-
-abbrev synchronization_with : SynchronizationParametersTLV → ChannelSequence → SynchronizationParametersTLV
-synchronization_with p q =
-    record {
-      next_channel = p.next_channel;
-      tx_counter = p.tx_counter;
-      master_channel = p.master_channel;
-      guard_time = p.guard_time;
-      aw_period = p.aw_period;
-      af_period = p.af_period;
-      awdl_flags = p.awdl_flags;
-      aw_ext_length = p.aw_ext_length;
-      aw_common_length = p.aw_common_length;
-      remaining_aw_length = p.remaining_aw_length;
-      min_ext_count = p.min_ext_count;
-      max_multicast_ext_count = p.max_multicast_ext_count;
-      max_unicast_ext_count = p.max_unicast_ext_count;
-      max_af_ext_count = p.max_af_ext_count;
-      master_address = p.master_address;
-      presence_mode = p.presence_mode;
-      reserved = p.reserved;
-      aw_seq_number = p.aw_seq_number;
-      ap_beacon_alignment_delta = p.ap_beacon_alignment_delta;
-      channel_sequence = channel_sequence_with p.channel_sequence q;
-    }
-
 data-path-large : RefusesLarge data_path_largest data_path_in
 data-path-large ns i above =
     fails (data_path_fits ns) (data_path_of ns) (λ fit. let below = fits-at ns data_path_largest i (both (fits ns data_path_largest) _ fit).0 in omega (arith, below, above))
@@ -229,23 +201,15 @@ synchronization-back ns e = same ∙ front 24 ns (omega arith)
 synchronization-there : (p : SynchronizationParametersTLV) → length p.channel_sequence.channel_sequence.bytes ≡ 32 → synchronization_of (synchronization_numbers p) ≡ p
 synchronization-there p e =
     let q = p.channel_sequence.channel_sequence in
-    ap (λ sequence. synchronization_with p sequence) (sequence-there q e)
+    ap (λ sequence. with_its_sequence p sequence) (sequence-there q e)
 
 -- numbers that pass are asked as their record, and what was asked as a record passed
 accepts : {A : Type 0} (fit : Bool) (b a : A) → fit ≡ true → b ≡ a → held fit b ≡ answer a
 accepts fit b a passed same = rw (passed, same)
 
-abbrev is_answer : {A : Type 0} → Answer A → Bool
-is_answer (answer a) = true
-is_answer (refusal why) = false
-
-abbrev answer_or : {A : Type 0} → A → Answer A → A
-answer_or other (answer a) = a
-answer_or other (refusal why) = other
-
 accepted : {A : Type 0} (fit : Bool) (b a : A) → held fit b ≡ answer a → (fit ≡ true) × (b ≡ a)
-accepted true b a e = (refl, ap (answer_or a) e)
-accepted false b a e = absurd (false≢true (ap is_answer e))
+accepted true b a e = (refl, cc)
+accepted false b a e = absurd cc
 
 pair : {a b : Bool} → a ≡ true → b ≡ true → a && b ≡ true
 pair p q = rw (p, q)
@@ -435,7 +399,7 @@ sequence-numbers =
 channel-sequence-numbers : AsNumbers ChannelSequenceInWidth 36 X.channel_sequence_largest X.channel_sequence_numbers X.channel_sequence_in C.zero_channel_sequence
 channel-sequence-numbers =
     as-numbers 36 X.channel_sequence_largest (λ ns. fits ns X.channel_sequence_largest) X.channel_sequence_numbers X.channel_sequence_of C.zero_channel_sequence
-    (λ c w. channel-sequence-fits c w.numbers w.sequence) (λ c w. ap (channel_sequence_with c) (sequence-there c.channel_sequence w.sequence.many))
+    (λ c w. channel-sequence-fits c w.numbers w.sequence) (λ c w. ap (with_sequence c) (sequence-there c.channel_sequence w.sequence.many))
     (λ ns e f. channel-sequence-back ns e) (large X.channel_sequence_largest X.channel_sequence_of) refl
 
 synchronization-numbers : AsNumbers SynchronizationInWidth 60 synchronization_largest synchronization_numbers synchronization_in zero_synchronization

@@ -83,21 +83,7 @@ pub numbers_apart : (why other : Refusal) → number_of why ≡ number_of other 
 numbers_apart why other e f g = only_one stands_for numbered back (rw (e, f, g)) refl
   where
     back : (w : Refusal) → numbered (stands_for w) ≡ w
-    back (Short at) = refl
-    back NotAction = refl
-    back NotVersion = refl
-    back UnicastLength = refl
-    back Encoding = refl
-    back NoRoom = refl
-    back Inconsistent = refl
-    back TooLong = refl
-    back ChannelCount = refl
-    back LegacySequence = refl
-    back CorrectedChannel = refl
-    back TooMany = refl
-    back NonePermitted = refl
-    back NotPermitted = refl
-    back (SmallerLoad own) = refl
+    back w = grind arith
 
 no-offset : (why : Refusal) → ¬ (number_of why ≡ 1) → offset_of why ≡ 0
 no-offset why other = grind arith
