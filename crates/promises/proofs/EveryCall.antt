@@ -42,7 +42,7 @@ use Rattle.tlv_items.specs.Walk.{walk, end_report}
 use Rattle.tlvs.specs.Search.{next_data_path, next_synchronization, next_channel_sequence}
 use Rattle.tlv_items.specs.ItemBytes.{item_bytes}
 use Rattle.tlv_items.specs.Said.{said_end}
-use Rattle.tlvs.specs.Said.{said_found_data_path, synchronization_found, channel_sequence_found}
+use Rattle.tlvs.specs.Said.{said_found}
 use Rattle.action_frame.specs.Frames as F
 use Rattle.action_frame.specs.Frames.{header, tail_of}
 use Rattle.action_frame.specs.Offsets.{offset_in_frame}
@@ -117,6 +117,12 @@ use Rattle.tlv_items.proofs as items
 use Rattle.tlv_items.specs.contracts as items-said
 use Rattle.tlvs.proofs as tlvs
 use Rattle.tlvs.specs.contracts as tlvs-said
+use Rattle.tlvs.proofs.search.DataPathStateTLVRecord as data-path-search
+use Rattle.tlvs.specs.contracts.search.DataPathStateTLVRecord as data-path-search-said
+use Rattle.tlvs.proofs.search.SynchronizationParametersTLVRecord as synchronization-search
+use Rattle.tlvs.specs.contracts.search.SynchronizationParametersTLVRecord as synchronization-search-said
+use Rattle.tlvs.proofs.search.ChannelSequenceTLVRecord as channel-sequence-search
+use Rattle.tlvs.specs.contracts.search.ChannelSequenceTLVRecord as channel-sequence-search-said
 use Rattle.tlvs.proofs.read_tlvs.ReadTLVs as readers
 use Rattle.tlvs.specs.contracts.read_tlvs.ReadTLVs as readers-said
 use Rattle.action_frame.proofs.AWDLActionFrame as frames
@@ -289,7 +295,7 @@ pub record EveryCall : Type 2 where
       (λ κs a r e. told r ≡ length_of (S.bytes_of a.0))
   pub synchronization-write : Call synchronizations.write.Symbol.name synchronizations.write.Symbol.code synchronizations-said.write.ended
       (λ κs a r e. Wrote a.1.0.now (S.bytes_of a.0) (told r) e.1.0.now)
-  -- items: a step of the walk, an item's value, the end report, the search for the records of a type, the writer
+  -- items: a step of the walk, an item's value, the end report, the search for the records of a type and the reader of its values, the writer
   pub step : Call items.step.Symbol.name items.step.Symbol.code items-said.step.ended
       (λ κs a r e. r ≡ step_at a.0.now a.1.0)
   pub step-with-value : Call tlvs.step_with_value.Symbol.name tlvs.step_with_value.Symbol.code tlvs-said.step_with_value.ended
@@ -298,18 +304,24 @@ pub record EveryCall : Type 2 where
       (λ κs a r e. (r.now ≡ value_of a.0.now a.1.0) × (r.ref_ptr ≡ part_at (value_start a.0.now a.1.0) a.0.ref_ptr))
   pub end : Call items.end.Symbol.name items.end.Symbol.code items-said.end.ended
       (λ κs a r e. said_end r ≡ end_report (walk a.0.now))
-  pub next-data-path : Call tlvs.next_data_path.Symbol.name tlvs.next_data_path.Symbol.code tlvs-said.next_data_path.ended
-      (λ κs a r e. said_found_data_path r ≡ next_data_path a.0.now a.1.0)
-  pub first-data-path : Call tlvs.first_data_path.Symbol.name tlvs.first_data_path.Symbol.code tlvs-said.first_data_path.ended
-      (λ κs a r e. said_found_data_path r ≡ next_data_path a.0.now 0)
-  pub next-synchronization : Call tlvs.next_synchronization.Symbol.name tlvs.next_synchronization.Symbol.code tlvs-said.next_synchronization.ended
-      (λ κs a r e. r ≡ synchronization_found (next_synchronization a.0.now a.1.0))
-  pub first-synchronization : Call tlvs.first_synchronization.Symbol.name tlvs.first_synchronization.Symbol.code tlvs-said.first_synchronization.ended
-      (λ κs a r e. r ≡ synchronization_found (next_synchronization a.0.now 0))
-  pub next-channel-sequence : Call tlvs.next_channel_sequence.Symbol.name tlvs.next_channel_sequence.Symbol.code tlvs-said.next_channel_sequence.ended
-      (λ κs a r e. r ≡ channel_sequence_found (next_channel_sequence a.0.now a.1.0))
-  pub first-channel-sequence : Call tlvs.first_channel_sequence.Symbol.name tlvs.first_channel_sequence.Symbol.code tlvs-said.first_channel_sequence.ended
-      (λ κs a r e. r ≡ channel_sequence_found (next_channel_sequence a.0.now 0))
+  pub data-path-read-value : Call data-path-search.read_value.Symbol.name data-path-search.read_value.Symbol.code data-path-search-said.read_value.ended
+      (λ κs a r e. said r ≡ data_path a.0.now 0)
+  pub next-data-path : Call data-path-search.next.Symbol.name data-path-search.next.Symbol.code data-path-search-said.next.ended
+      (λ κs a r e. said_found r ≡ next_data_path a.0.now a.1.0)
+  pub first-data-path : Call data-path-search.first.Symbol.name data-path-search.first.Symbol.code data-path-search-said.first.ended
+      (λ κs a r e. said_found r ≡ next_data_path a.0.now 0)
+  pub synchronization-read-value : Call synchronization-search.read_value.Symbol.name synchronization-search.read_value.Symbol.code synchronization-search-said.read_value.ended
+      (λ κs a r e. said r ≡ synchronization a.0.now 0)
+  pub next-synchronization : Call synchronization-search.next.Symbol.name synchronization-search.next.Symbol.code synchronization-search-said.next.ended
+      (λ κs a r e. said_found r ≡ next_synchronization a.0.now a.1.0)
+  pub first-synchronization : Call synchronization-search.first.Symbol.name synchronization-search.first.Symbol.code synchronization-search-said.first.ended
+      (λ κs a r e. said_found r ≡ next_synchronization a.0.now 0)
+  pub channel-sequence-read-value : Call channel-sequence-search.read_value.Symbol.name channel-sequence-search.read_value.Symbol.code channel-sequence-search-said.read_value.ended
+      (λ κs a r e. said r ≡ channel_sequence_record a.0.now 0)
+  pub next-channel-sequence : Call channel-sequence-search.next.Symbol.name channel-sequence-search.next.Symbol.code channel-sequence-search-said.next.ended
+      (λ κs a r e. said_found r ≡ next_channel_sequence a.0.now a.1.0)
+  pub first-channel-sequence : Call channel-sequence-search.first.Symbol.name channel-sequence-search.first.Symbol.code channel-sequence-search-said.first.ended
+      (λ κs a r e. said_found r ≡ next_channel_sequence a.0.now 0)
   pub write-item : Call items.write_item.Symbol.name items.write_item.Symbol.code items-said.write_item.ended
       (λ κs a r e. Wrote a.1.1.0.now (item_bytes a.0 a.1.0.now) (told r) e.1.1.0.now)
   -- the reader that keeps its bytes and its place together
@@ -319,12 +331,12 @@ pub record EveryCall : Type 2 where
       (λ κs a r e. (r.bytes ≡ a.0.bytes) × (r.at ≡ a.1.0))
   pub read-tlvs-next : Call readers.next.Symbol.name readers.next.Symbol.code readers-said.next.ended
       (λ κs a r e. (r.step ≡ step_at a.0.bytes.now a.0.at) × (r.value.now ≡ value_at a.0.bytes.now a.0.at) × (r.value.ref_ptr ≡ part_at (value_start_at a.0.bytes.now a.0.at) a.0.bytes.ref_ptr))
-  pub read-tlvs-first-data-path : Call readers.first_data_path.Symbol.name readers.first_data_path.Symbol.code readers-said.first_data_path.ended
-      (λ κs a r e. said_found_data_path r ≡ next_data_path a.0.bytes.now a.0.at)
-  pub read-tlvs-first-synchronization : Call readers.first_synchronization.Symbol.name readers.first_synchronization.Symbol.code readers-said.first_synchronization.ended
-      (λ κs a r e. r ≡ synchronization_found (next_synchronization a.0.bytes.now a.0.at))
-  pub read-tlvs-first-channel-sequence : Call readers.first_channel_sequence.Symbol.name readers.first_channel_sequence.Symbol.code readers-said.first_channel_sequence.ended
-      (λ κs a r e. r ≡ channel_sequence_found (next_channel_sequence a.0.bytes.now a.0.at))
+  pub first-data-path-in : Call data-path-search.first_in.Symbol.name data-path-search.first_in.Symbol.code data-path-search-said.first_in.ended
+      (λ κs a r e. said_found r ≡ next_data_path a.0.bytes.now a.0.at)
+  pub first-synchronization-in : Call synchronization-search.first_in.Symbol.name synchronization-search.first_in.Symbol.code synchronization-search-said.first_in.ended
+      (λ κs a r e. said_found r ≡ next_synchronization a.0.bytes.now a.0.at)
+  pub first-channel-sequence-in : Call channel-sequence-search.first_in.Symbol.name channel-sequence-search.first_in.Symbol.code channel-sequence-search-said.first_in.ended
+      (λ κs a r e. said_found r ≡ next_channel_sequence a.0.bytes.now a.0.at)
   -- frames: the header, the tail, offsets in the frame, the writer; the gap between the stamps
   pub frame-read : Call frames.read.Symbol.name frames.read.Symbol.code frames-said.read.ended
       (λ κs a r e. said r ≡ header a.0.now 0)
@@ -494,19 +506,22 @@ every_call =
       step-with-value = λ M. tlvs.step_with_value.Met.met;
       value = λ M. items.value.Met.met;
       end = λ M. items.end.Met.met;
-      next-data-path = λ M. tlvs.next_data_path.Met.met;
-      first-data-path = λ M. tlvs.first_data_path.Met.met;
-      next-synchronization = λ M. tlvs.next_synchronization.Met.met;
-      first-synchronization = λ M. tlvs.first_synchronization.Met.met;
-      next-channel-sequence = λ M. tlvs.next_channel_sequence.Met.met;
-      first-channel-sequence = λ M. tlvs.first_channel_sequence.Met.met;
+      data-path-read-value = λ M. data-path-search.read_value.Met.met;
+      next-data-path = λ M. data-path-search.next.Met.met;
+      first-data-path = λ M. data-path-search.first.Met.met;
+      synchronization-read-value = λ M. synchronization-search.read_value.Met.met;
+      next-synchronization = λ M. synchronization-search.next.Met.met;
+      first-synchronization = λ M. synchronization-search.first.Met.met;
+      channel-sequence-read-value = λ M. channel-sequence-search.read_value.Met.met;
+      next-channel-sequence = λ M. channel-sequence-search.next.Met.met;
+      first-channel-sequence = λ M. channel-sequence-search.first.Met.met;
       write-item = λ M. items.write_item.Met.met;
       read-tlvs-new = λ M. readers.new.Met.met;
       read-tlvs-go-on = λ M. readers.go_on.Met.met;
       read-tlvs-next = λ M. readers.next.Met.met;
-      read-tlvs-first-data-path = λ M. readers.first_data_path.Met.met;
-      read-tlvs-first-synchronization = λ M. readers.first_synchronization.Met.met;
-      read-tlvs-first-channel-sequence = λ M. readers.first_channel_sequence.Met.met;
+      first-data-path-in = λ M. data-path-search.first_in.Met.met;
+      first-synchronization-in = λ M. synchronization-search.first_in.Met.met;
+      first-channel-sequence-in = λ M. channel-sequence-search.first_in.Met.met;
       frame-read = λ M. frames.read.Met.met;
       frame-tail = λ M. frames.tail.Met.met;
       offset-in-frame = λ M. frames.offset_in_frame.Met.met;

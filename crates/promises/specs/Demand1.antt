@@ -35,6 +35,7 @@ use Rattle.data_path_state.specs.DataPath.{data_path}
 use Rattle.synchronization_parameters.specs.SynchronizationReader.{synchronization, zero_synchronization}
 use Rattle.synchronization_parameters.specs.FieldWidths.{fixed_widths}
 use Rattle.tlv_items.specs.Said.{said_end}
+use Rattle.tlvs.specs.Said.{said_found}
 use Rattle.action_frame.specs.Frames.{header, zero_frame}
 use Rattle.promises.specs.Answers.{refused_outcome, refused_reply, refused_judgement, Once, Answering, ShortInFrame}
 
