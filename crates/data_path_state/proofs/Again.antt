@@ -15,7 +15,7 @@ use Rattle.wire.specs.Numbers.{little, little_bytes, number, bit, bits}
 use Rattle.wire.specs.Words.{word_by}
 use Rattle.wire.proofs.Lawful.{never}
 use Rattle.wire.proofs.Octets.{Octets, OctetField, by_place, number-field, gives-field}
-use Rattle.wire.proofs.Again.{Again, again-give, again-bind, again-step, again-group, again-when, again-optional, again-made, number-again, address-again, again-number, again-joined, again-end}
+use Rattle.wire.proofs.Again.{Again, again-give, again-bind, again-step, again-group, again-when, again-optional, number-again, address-again, again-number, again-joined, again-end}
 use Rattle.data_path_words.specs.declared.misc.DataPathChannel.{DataPathChannel}
 use Rattle.data_path_words.specs.Words.{extended_kept, options_kept, channel_of, word_of, channel_word, channel_bytes, options_bytes, stats, stats_bytes}
 use Rattle.data_path_words.specs.Words as W

@@ -8,7 +8,7 @@ use mathlib.Core.List.{List, [], ◌∷◌, ◌++◌, append_assoc, append-nil}
 use lib.Dec.{eqb}
 use lib.ListN.{get_or}
 use Rattle.wire.specs.declared.refusal.Refusal.TheVariants.{UnicastLength}
-use Rattle.wire.specs.Reading.{Reader, when, ◌>>=◌}
+use Rattle.wire.specs.Reading.{Reader, ◌>>=◌}
 use Rattle.wire.specs.Numbers.{little, number, bit}
 use Rattle.wire.specs.Addresses.{zero_address, address_of}
 use Rattle.wire.specs.Words.{word_by}

@@ -1,5 +1,5 @@
 -- The size of a record and the bytes that are written.
-use Rattle.std.specs.Prelude.{ℕ, ◌+◌, Bool, cond, List, [], ◌∷◌, ◌++◌}
+use Rattle.std.specs.Prelude.{ℕ, ◌+◌, Bool, cond, List, [], ◌++◌}
 use Rattle.wire.specs.declared.refusal.Refusal.TheVariants.{Inconsistent}
 use Rattle.wire.specs.Answer.{Answer, answer, require, ◌>>◌}
 use Rattle.wire.specs.Numbers.{little_bytes}
