@@ -86,13 +86,13 @@ module _ {A : Type 0} (n : ℕ) (r : Reader A) (s : List ℕ) where
       → (it.tlv_type ≡ n → ⊥) → next_from n r s from ≡ next_from n r s next
   passes-other from at {it = it} e same other = search-passes from at same e (other-type it other)
 
-  pub passes-refused : (from at : ℕ) {next : ℕ} {it : Item} {value : List ℕ} {why : Refusal} → Step.Item it next ≡ step_at s at
-      → next_from n r s from ≡ next_from n r s at → it.tlv_type ≡ n → value ≡ value_of s it → refused why ≡ r value 0 → next_from n r s from ≡ next_from n r s next
-  passes-refused from at {it = it} e same type v refuses = search-passes from at same e (value-refused it type v (sym refuses))
+  pub passes-refused : (from at : ℕ) {next : ℕ} {it : Item} {value : List ℕ} {why : Refusal} {m : ℕ} → Step.Item it next ≡ step_at s at
+      → next_from n r s from ≡ next_from n r s at → it.tlv_type ≡ m → m ≡ n → value ≡ value_of s it → refused why ≡ r value 0 → next_from n r s from ≡ next_from n r s next
+  passes-refused from at {it = it} e same type number v refuses = search-passes from at same e (value-refused it (type ∙ number) v (sym refuses))
 
-  pub takes-read : (from at : ℕ) {next : ℕ} {it : Item} {value : List ℕ} {a : A} {size : ℕ} → Step.Item it next ≡ step_at s at
-      → next_from n r s from ≡ next_from n r s at → it.tlv_type ≡ n → value ≡ value_of s it → read a size ≡ r value 0 → found a it next ≡ next_from n r s from
-  takes-read from at {it = it} e same type v reads = search-takes from at same e (value_read it type v (sym reads))
+  pub takes-read : (from at : ℕ) {next : ℕ} {it : Item} {value : List ℕ} {a : A} {size m : ℕ} → Step.Item it next ≡ step_at s at
+      → next_from n r s from ≡ next_from n r s at → it.tlv_type ≡ m → m ≡ n → value ≡ value_of s it → read a size ≡ r value 0 → found a it next ≡ next_from n r s from
+  takes-read from at {it = it} e same type number v reads = search-takes from at same e (value_read it (type ∙ number) v (sym reads))
 
   one : (it : Item) → One it (matched n r s it)
   unfolding matched
