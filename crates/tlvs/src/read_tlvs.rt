@@ -5,7 +5,7 @@ ghost use Rattle.tlv_items.specs.Items.{step_at, value_at, value_start_at};
 use crate::values::{StepWithValue, step_with_value};
 
 // A tail and a place in it.
-#[derive(Clone, Copy)]
+#[derive(Clone, Copy, Debug, PartialEq, Eq, Hash)]
 pub struct ReadTLVs<'a> {
     pub bytes: &'a [u8],
     pub at: usize,

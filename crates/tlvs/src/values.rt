@@ -6,7 +6,7 @@ use tlv_items::Step;
 
 // A step with the value of its item. Where there is no item the value is the empty part at the tail's start: `ReadTLVs::next`
 // promises that part too, and so it stands beside the step.
-#[derive(Clone, Copy)]
+#[derive(Clone, Copy, Debug, PartialEq, Eq, Hash)]
 pub struct StepWithValue<'a> {
     pub step: Step,
     pub value: &'a [u8],
