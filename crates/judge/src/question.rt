@@ -1,111 +1,130 @@
-// A question, as far as its lines have been taken. Its sequences and its channels stand in buffers beside it.
-use crate::parse::{Fault, Kept, List, ProposalLine, Proposed, keep_value, list_of, proposal_of};
-use crate::words::{behind, is_blank, starts};
+// A question, as far as its lines have been taken.
+use arrayvec::ArrayVec;
+use channel_sequence_tlv::ChannelSequenceTLV;
+use text::HexError;
+use wire::Refusal;
 
 // The word `value`, a space, and the digits of 4,096 bytes.
 const LONGEST: usize = 8198;
 
-// How many lines of the file there were, how many bytes of sequences and how many channels are kept, and the proposal.
+// Why a line of the file is no value.
+#[derive(Clone, Copy, Debug, PartialEq, Eq, Hash)]
+pub(crate) enum Fault {
+    TooLong,
+    NotHex,
+    Refused(Refusal),
+}
+
+impl From<HexError> for Fault {
+    fn from(error: HexError) -> Fault {
+        match error {
+            HexError::NoRoom => Fault::TooLong,
+            HexError::NotHex => Fault::NotHex,
+        }
+    }
+}
+
+impl From<Refusal> for Fault {
+    fn from(why: Refusal) -> Fault {
+        Fault::Refused(why)
+    }
+}
+
+// What is bad in a question. A line of the file is told by its number.
+#[derive(Clone, Copy, Debug, PartialEq, Eq, Hash)]
+pub(crate) enum Bad {
+    List,
+    Proposal,
+    File(u64, Fault),
+}
+
+// The sequences and the channels have room for one more than is judged by, which tells that there are more. Where no channel is
+// proposed, our own proposal is wanted.
 #[derive(Drop)]
-pub(crate) struct Good {
-    pub(crate) lines: u64,
-    pub(crate) kept: usize,
-    pub(crate) channels: usize,
-    pub(crate) proposed: Proposed,
+pub(crate) struct Question {
+    pub(crate) sequences: ArrayVec<u8, 2145>,
+    pub(crate) permitted: ArrayVec<u8, 17>,
+    pub(crate) proposal: Option<u8>,
+    lines: u64,
 }
 
-// The first thing that is bad is what is answered, so that a question which is bad stays as it is.
-#[derive(Drop)]
-pub(crate) enum Question {
-    None,
-    Good(Good),
-    BadList,
-    BadProposal,
-    BadFile(u64, Fault),
-}
-
-fn permitting(channels: usize) -> Good {
-    Good {
-        lines: 0,
-        kept: 0,
-        channels,
-        proposed: Proposed::None,
-    }
-}
-
-pub(crate) fn begun(line: &[u8], permitted: &mut [u8]) -> Question {
+// What stands behind the word that a line starts with, without the carriage return at its end. A line that is too long has nothing.
+fn behind<'a>(line: &'a [u8], word: &[u8]) -> Option<&'a [u8]> {
     if LONGEST < line.len() {
-        return Question::BadList;
+        return None;
     }
-    match list_of(behind(line, b"permitted "), permitted) {
-        List::Channels(n) => Question::Good(permitting(n)),
-        List::Bad => Question::BadList,
-    }
+    let text = line.strip_prefix(word)?;
+    Some(text.strip_suffix(b"\r").unwrap_or(text))
 }
 
-fn with_proposal(good: Good, line: &[u8]) -> Question {
-    if LONGEST < line.len() {
-        return Question::BadProposal;
-    }
-    match proposal_of(behind(line, b"proposal ")) {
-        ProposalLine::Says(proposed) => Question::Good(Good {
-            lines: good.lines,
-            kept: good.kept,
-            channels: good.channels,
-            proposed,
-        }),
-        ProposalLine::Bad => Question::BadProposal,
-    }
-}
-
-fn text_of(line: &[u8]) -> &[u8] {
-    if starts(line, b"value ") {
-        return behind(line, b"value ");
-    }
-    behind(line, b"")
+fn channel_of(word: &[u8]) -> Option<u8> {
+    u8::try_from(text::decimal_of(word)?).ok()
 }
 
 fn is_passed_over(text: &[u8]) -> bool {
-    is_blank(text) || starts(text, b"#")
+    text.iter().all(|c| *c == b' ') || text.starts_with(b"#")
 }
 
-fn keep_line(line: &[u8], sequences: &mut [u8], at: usize) -> Kept {
-    if LONGEST < line.len() {
-        return Kept::Bad(Fault::TooLong);
+impl Question {
+    pub(crate) fn new() -> Question {
+        Question {
+            sequences: ArrayVec::new(),
+            permitted: ArrayVec::new(),
+            proposal: None,
+            lines: 0,
+        }
     }
-    let text = text_of(line);
-    if is_passed_over(text) {
-        return Kept::Behind(at);
-    }
-    keep_value(text, sequences, at)
-}
 
-fn with_file_line(good: Good, line: &[u8], sequences: &mut [u8]) -> Question {
-    let lines = std::num::wrapping_add_u64(good.lines, 1);
-    let proposed = good.proposed;
-    match keep_line(line, sequences, good.kept) {
-        Kept::Behind(kept) => Question::Good(Good {
-            lines,
-            kept,
-            channels: good.channels,
-            proposed,
-        }),
-        Kept::Bad(fault) => Question::BadFile(lines, fault),
+    // A channel that has no room is one of too many, which the channels before it tell already.
+    pub(crate) fn permitting(line: &[u8]) -> Result<Question, Bad> {
+        let mut question = Question::new();
+        let list = behind(line, b"permitted ").ok_or(Bad::List)?;
+        if list == b"-".as_slice() {
+            return Ok(question);
+        }
+        for word in list.split(|c| *c == b',') {
+            let channel = channel_of(word).ok_or(Bad::List)?;
+            let _ = question.permitted.try_push(channel);
+        }
+        Ok(question)
     }
-}
 
-fn with_good_line(good: Good, line: &[u8], sequences: &mut [u8]) -> Question {
-    if starts(line, b"proposal ") {
-        return with_proposal(good, line);
+    fn propose(&mut self, line: &[u8]) -> Result<(), Bad> {
+        let word = behind(line, b"proposal ").ok_or(Bad::Proposal)?;
+        self.proposal = match word {
+            b"-" => None,
+            _ => Some(channel_of(word).ok_or(Bad::Proposal)?),
+        };
+        Ok(())
     }
-    with_file_line(good, line, sequences)
-}
 
-// Lines before the first list are a question of their own.
-pub(crate) fn with_line(question: Question, line: &[u8], sequences: &mut [u8]) -> Question {
-    match question {
-        Question::None => with_good_line(permitting(0), line, sequences),
-        Question::Good(good) => with_good_line(good, line, sequences),
-        _ => question,
+    // A sequence that has no room is one of too many, which the sequences before it tell already. The longest line has 4099 bytes,
+    // where it has digits alone.
+    fn keep(&mut self, line: &[u8]) -> Result<(), Fault> {
+        let text = behind(line, b"value ")
+            .or(behind(line, b""))
+            .ok_or(Fault::TooLong)?;
+        if is_passed_over(text) {
+            return Ok(());
+        }
+        let mut value = [0u8; 4099];
+        let n = text::hex_into(&mut value, 0, text)?;
+        let (record, _) = ChannelSequenceTLV::read(value.get(..n).unwrap_or(&value), 0)?;
+        let sequence = record.channel_sequence;
+        let _ = self.sequences.try_push(sequence.encoding);
+        let _ = self.sequences.try_extend_from_slice(&sequence.bytes);
+        Ok(())
+    }
+
+    pub(crate) fn with(mut self, line: &[u8]) -> Result<Question, Bad> {
+        if line.starts_with(b"proposal ") {
+            self.propose(line)?;
+            return Ok(self);
+        }
+        self.lines = self.lines.wrapping_add(1);
+        match self.keep(line) {
+            Ok(()) => Ok(self),
+            Err(fault) => Err(Bad::File(self.lines, fault)),
+        }
     }
 }

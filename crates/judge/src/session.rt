@@ -1,0 +1,100 @@
+// The lines of the input, and the question that they are of.
+use crate::judge::put_answer;
+use crate::question::{Bad, Question};
+use arrayvec::ArrayVec;
+use std::io::Stdout;
+
+// What ends the program before the end of its input.
+#[derive(Clone, Copy, Debug, PartialEq, Eq, Hash)]
+pub(crate) enum Failure {
+    Unread,
+    Unwritten,
+}
+
+impl Failure {
+    pub(crate) fn message(self) -> &'static [u8] {
+        match self {
+            Failure::Unread => b"cannot read the input\n",
+            Failure::Unwritten => b"cannot write\n",
+        }
+    }
+}
+
+// The question so far, where there is a line of one, and where its answer goes. The first thing that is bad is what is answered, so
+// that a question which is bad stays as it is.
+#[derive(Drop)]
+struct Asked {
+    stdout: Stdout,
+    question: Option<Result<Question, Bad>>,
+}
+
+impl Asked {
+    fn show(&self) -> Result<(), Failure> {
+        let Some(question) = &self.question else {
+            return Ok(());
+        };
+        let mut out = ArrayVec::new();
+        put_answer(&mut out, question).map_err(|_| Failure::Unwritten)?;
+        self.stdout
+            .write_all(out.as_slice())
+            .map_err(|_| Failure::Unwritten)
+    }
+
+    // Lines before the first list are a question of their own.
+    fn take_line(&mut self, line: &[u8]) -> Result<(), Failure> {
+        if line.starts_with(b"permitted ") {
+            self.show()?;
+            self.question = Some(Question::permitting(line));
+            return Ok(());
+        }
+        self.question = Some(match self.question.take() {
+            None => Question::new().with(line),
+            Some(question) => question.and_then(|good| good.with(line)),
+        });
+        Ok(())
+    }
+}
+
+// The line so far has room for one character more than is taken, which tells that there are more.
+#[derive(Drop)]
+pub(crate) struct Session {
+    line: ArrayVec<u8, 8199>,
+    asked: Asked,
+}
+
+impl Session {
+    pub(crate) fn new(stdout: Stdout) -> Session {
+        Session {
+            line: ArrayVec::new(),
+            asked: Asked {
+                stdout,
+                question: None,
+            },
+        }
+    }
+
+    fn end_line(&mut self) -> Result<(), Failure> {
+        self.asked.take_line(self.line.as_slice())?;
+        self.line.clear();
+        Ok(())
+    }
+
+    pub(crate) fn take_block(&mut self, block: &[u8]) -> Result<(), Failure> {
+        for byte in block {
+            if *byte == b'\n' {
+                self.end_line()?;
+            } else {
+                let _ = self.line.try_push(*byte);
+            }
+        }
+        Ok(())
+    }
+
+    // The last line may lack its line feed, and the last question has no other behind it.
+    pub(crate) fn finish(mut self) -> Result<(), Failure> {
+        if !self.line.is_empty() {
+            self.end_line()?;
+        }
+        self.asked.show()
+    }
+}
