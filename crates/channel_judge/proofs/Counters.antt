@@ -2,7 +2,7 @@
 -- Assumes nothing.
 use Prim.Native.Nat.{ℕ, zero, suc, ◌+◌, ◌-◌, ◌*◌, ◌/◌, ◌≤◌, ◌<◌}
 use native.Mathlib.Omega.{arith}
-use mathlib.Core.Path.{◌≡◌, refl, ap, ◌∙◌, fun_ext}
+use mathlib.Core.Path.{◌≡◌, refl, ap, ◌∙◌}
 use mathlib.Core.Bool.{Bool, true, false, cond}
 use mathlib.Core.List.{List, [], ◌∷◌, ◌++◌}
 use lib.Dec.{eqb}
@@ -24,9 +24,6 @@ use Rattle.channel_judge.specs.Counters.{load_by, AtMost, Grown, whole_sequences
 pub record Underway (start counters : Loads) (ahead whole : ℕ → ℕ) : Type 0 where
   pub each : (channel : ℕ) → load_by counters channel + ahead channel ≡ load_by start channel + whole channel
 
-pub begun : (counters : Loads) (whole : ℕ → ℕ) → Underway counters counters whole whole
-begun counters whole = record { each = λ channel. refl }
-
 pub further : {start counters after : Loads} {ahead next by whole : ℕ → ℕ} → Underway start counters ahead whole → Grown counters by after
     → ((channel : ℕ) → ahead channel ≡ by channel + next channel) → Underway start after next whole
 further w g split = record { each = λ channel. omega (arith, w.each channel, g.each channel, split channel) }
@@ -45,9 +42,9 @@ unfolding encoding_of
 only-encoding n {why} e = go (eqb n 0) (eqb n 1) (eqb n 3) e
   where
     go : (a b c : Bool) → refusal why ≡ cond a (answer Simple) (cond b (answer Legacy) (cond c (answer OpClass) (refusal Encoding))) → why ≡ Encoding
-    go true b c e = absurd (let z : ◌≡◌ {A = ℕ} 0 1 = cc in omega arith)
-    go false true c e = absurd (let z : ◌≡◌ {A = ℕ} 0 1 = cc in omega arith)
-    go false false true e = absurd (let z : ◌≡◌ {A = ℕ} 0 1 = cc in omega arith)
+    go true b c e = absurd (cc)
+    go false true c e = absurd (cc)
+    go false false true e = absurd (cc)
     go false false false e = cc
 
 -- a channel is at most so often among some as there are
@@ -129,12 +126,3 @@ pub passed-unlisted : {s rest : List ℕ} (x behind : List ℕ) {counters : Load
 passed-unlisted x behind w e many found =
     let next = ap whole_sequences e ∙ next-sequence x behind many in
     rw (w.listed, next, ← found, only-encoding (get_or x 0 0) found)
-
--- behind the last one all are counted
-pub passed-all : {s rest : List ℕ} {counters : Loads} → Passing s rest counters → length rest < 33
-    → answer (load_by counters) ≡ counted (whole_sequences s)
-passed-all {s} {rest} {counters} w few =
-    let none : length rest / 33 ≡ 0 = omega arith in
-    let all : all_listed (whole_sequences s) ≡ true = w.listed ∙ rw none in
-    let held : load_by counters ≡ load (whole_sequences s) = fun_ext (λ channel. let left : load (whole_sequences rest) channel ≡ 0 = rw none in omega (arith, w.loads channel)) in
-    rw (all, held)

@@ -156,5 +156,5 @@ module _ (load_of : ℕ → ℕ) where
 
   -- what was proposed is our own, of a list that is not empty
   pub proposed-own : (s : List ℕ) {o : ℕ} → answer o ≡ proposed_by load_of s → (0 < length s) × (o ≡ own load_of s)
-  proposed-own [] e = absurd (let z : ◌≡◌ {A = ℕ} 0 1 = cc in omega arith)
+  proposed-own [] e = absurd (cc)
   proposed-own (b ∷ rest) {o} e = let e' = rw (le-leb 1 (suc (length rest)) (omega arith)) at e in (omega arith, cc)

@@ -49,12 +49,12 @@ unfolding step_at
 step-stands s at {it} {next} e = go (eqb at (length s)) (item at s at) refl e
   where
     go : (b : Bool) (r : Reading Item) → item at s at ≡ r → cond b Step.Whole (step_of at r) ≡ Step.Item it next → Stands s at it next
-    go true r q e = absurd (let z : ◌≡◌ {A = ℕ} 0 1 = cc in omega arith)
+    go true r q e = absurd (cc)
     go false (read it' next') q e =
         let same : it' ≡ it = cc in
         let last : next' ≡ next = cc in
         stands s at (q ∙ rw (same, last))
-    go false (refused why) q e = absurd (let z : ◌≡◌ {A = ℕ} 0 1 = cc in omega arith)
+    go false (refused why) q e = absurd (cc)
 
 -- whole is the end of the tail, and a cut is at the place that was asked
 pub step-whole : (s : List ℕ) (at : ℕ) → step_at s at ≡ Step.Whole → at ≡ length s
@@ -63,14 +63,14 @@ step-whole s at e = go (eqb at (length s)) refl (item at s at) e
   where
     go : (b : Bool) → eqb at (length s) ≡ b → (r : Reading Item) → cond b Step.Whole (step_of at r) ≡ Step.Whole → at ≡ length s
     go true q r e = eqb-true at (length s) q
-    go false q (read it next) e = absurd (let z : ◌≡◌ {A = ℕ} 0 1 = cc in omega arith)
-    go false q (refused why) e = absurd (let z : ◌≡◌ {A = ℕ} 0 1 = cc in omega arith)
+    go false q (read it next) e = absurd (cc)
+    go false q (refused why) e = absurd (cc)
 
 pub step_cut : (s : List ℕ) (at : ℕ) {place : ℕ} → step_at s at ≡ Step.Cut place → place ≡ at
 unfolding step_at
 step_cut s at {place} e = go (eqb at (length s)) (item at s at) e
   where
     go : (b : Bool) (r : Reading Item) → cond b Step.Whole (step_of at r) ≡ Step.Cut place → place ≡ at
-    go true r e = absurd (let z : ◌≡◌ {A = ℕ} 0 1 = cc in omega arith)
-    go false (read it next) e = absurd (let z : ◌≡◌ {A = ℕ} 0 1 = cc in omega arith)
+    go true r e = absurd (cc)
+    go false (read it next) e = absurd (cc)
     go false (refused why) e = cc

@@ -109,10 +109,10 @@ module _ {A : Type 0} (n : ℕ) (r : Reader A) (s : List ℕ) where
     where
       go : (xs : List (Match A)) → first_of xs ≡ nothing → xs ≡ []
       go [] e = refl
-      go (x ∷ xs) e = absurd (let z : ◌≡◌ {A = ℕ} 0 1 = cc in omega arith)
+      go (x ∷ xs) e = absurd (cc)
 
   none_found : (at : ℕ) {a : A} {it : Item} {next : ℕ} → all_from n r s at ≡ [] → next_from n r s at ≡ found a it next → ⊥
-  none_found at none e = let e' = sym (ap first_of none) ∙ e in let z : ◌≡◌ {A = ℕ} 0 1 = cc in omega arith
+  none_found at none e = let e' = sym (ap first_of none) ∙ e in cc
 
   -- what is found is the record of the item at the place, or is found behind that item
   here-or-behind : {at : ℕ} {a : A} {it : Item} {next : ℕ} {it' : Item} {next' : ℕ} {xs : List (Match A)} → next_from n r s at ≡ found a it next
