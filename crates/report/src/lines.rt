@@ -1,7 +1,7 @@
 // The lines by their shape. The words of each and the most digits of its numbers leave room in 128 bytes.
 ghost use Rattle.std.specs.Prelude.{◌+◌, ◌≤◌, ◌≡◌, ◌++◌, length};
 ghost use Rattle.text.specs.Text.{text, decimal, named};
-ghost use Rattle.report.specs.Lines.{header_fields, header_line};
+ghost use Rattle.report.specs.Lines.{header_line};
 ghost use Rattle.report.specs.Shown.{PutWithRoom};
 
 use crate::put::{put_named, put_text};
@@ -29,37 +29,28 @@ pub(crate) fn two_numbers(out: &mut [u8; 128], first: &[u8], m: u64, second: &[u
     requires { length first.now + length second.now ≤ 40 }
     ensures { PutWithRoom out.old 0 (first.now ++ decimal m ++ (second.now ++ decimal n) ++ text "\n") result out.new }
 {
-    let behind_first = put_named(out, 0, first, m);
-    let behind_second = put_named(out, behind_first, second, n);
-    put_text(out, behind_second, b"\n")
-}
-
-// The line's start: 27 characters and three numbers of at most twenty digits. It stands apart from the gap because the search for a
-// bound looks back over so many steps only, and four numbers in one function take more.
-fn put_header_fields(out: &mut [u8; 128], f: AWDLActionFrame) -> usize
-    ensures put_with_room { PutWithRoom out.old 0 (header_fields f) result out.new }
-    ensures upper_bound { result ≤ 87 }
-{
-    let behind_subtype = put_named(out, 0, b"frame subtype=", u64::from(f.subtype));
-    let behind_phy = put_named(out, behind_subtype, b" phy=", u64::from(f.phy_tx_time.0));
-    put_named(out, behind_phy, b" target=", u64::from(f.target_tx_time.0))
+    let at = put_named(out, 0, first, m);
+    let at = put_named(out, at, second, n);
+    put_text(out, at, b"\n")
 }
 
 pub(crate) fn header(out: &mut [u8; 128], f: AWDLActionFrame) -> usize
     ensures { PutWithRoom out.old 0 (header_line f) result out.new }
 {
-    let behind_fields = put_header_fields(out, f);
+    let at = put_named(out, 0, b"frame subtype=", u64::from(f.subtype));
+    let at = put_named(out, at, b" phy=", u64::from(f.phy_tx_time.0));
+    let at = put_named(out, at, b" target=", u64::from(f.target_tx_time.0));
     let gap = u64::from(tx_delta(f.phy_tx_time, f.target_tx_time));
-    let behind_delta = put_named(out, behind_fields, b" delta=", gap);
-    put_text(out, behind_delta, b"\n")
+    let at = put_named(out, at, b" delta=", gap);
+    put_text(out, at, b"\n")
 }
 
 // The place is counted from the start of the frame.
 pub(crate) fn item(out: &mut [u8; 128], place: u64, tlv_type: u64, len: u64) -> usize
     ensures { PutWithRoom out.old 0 (named "item at=" place ++ named " type=" tlv_type ++ named " length=" len ++ text "\n") result out.new }
 {
-    let behind_place = put_named(out, 0, b"item at=", place);
-    let behind_type = put_named(out, behind_place, b" type=", tlv_type);
-    let behind_length = put_named(out, behind_type, b" length=", len);
-    put_text(out, behind_length, b"\n")
+    let at = put_named(out, 0, b"item at=", place);
+    let at = put_named(out, at, b" type=", tlv_type);
+    let at = put_named(out, at, b" length=", len);
+    put_text(out, at, b"\n")
 }

@@ -6,5 +6,5 @@ use Rattle.report.proofs.lines.item.Goals as goal
 pub returns : goal.returns
 returns c =
     room-then
-    (room-then (room-then c.put_named-behind_place.ensures.put_with_room c.put_named-behind_type.ensures.put_with_room) c.put_named-behind_length.ensures.put_with_room)
+    (room-then (room-then c.put_named-at.ensures.put_with_room c.put_named-at-2.ensures.put_with_room) c.put_named-at-3.ensures.put_with_room)
     c.put_text.ensures.put_with_room

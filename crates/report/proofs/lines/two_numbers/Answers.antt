@@ -5,4 +5,4 @@ use Rattle.report.proofs.lines.two_numbers.Goals as goal
 
 pub returns : goal.returns
 returns c =
-    room-then (room-then c.put_named-behind_first.ensures.put_with_room c.put_named-behind_second.ensures.put_with_room) c.put_text.ensures.put_with_room
+    room-then (room-then c.put_named-at.ensures.put_with_room c.put_named-at-2.ensures.put_with_room) c.put_text.ensures.put_with_room
