@@ -34,3 +34,5 @@ infra-eq i = ap (λ (b : Bool). b && eqb i.channel 0) (address-eq i.bssid)
 
 pub stats-eq : (s : DataPathStats) → (Stats.ghosts).eq s zero_stats ≡ is_zero_stats s
 stats-eq s = simp and_assoc refl
+
+pub ruleset zeros = (country-eq, channel-eq, infra-eq, address-eq, stats-eq)

@@ -45,6 +45,7 @@ impl DataPathStateTLV {
             & (UnicastOptions::from_bits(options.0) == options)
     }
 
+    #[tactic(auto, using(crate::proofs::Zeros::zeros))]
     pub(crate) fn absent_zero(self) -> bool
         ensures { result ≡ C.absent_zero self }
     {

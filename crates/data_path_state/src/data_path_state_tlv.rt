@@ -48,6 +48,7 @@ impl DataPathStateTLV {
         Ok((record_of(head, body), size))
     }
 
+    #[tactic(auto, unfolding(crate::specs::Consistent::consistent))]
     pub fn consistent(self) -> bool
         ensures { result ≡ C.consistent self }
     {
@@ -59,6 +60,7 @@ impl DataPathStateTLV {
     }
 
     // What the Rust's writer does before it writes. A channel that is there is left as it is.
+    #[tactic(auto, unfolding(crate::specs::Mended::mended))]
     pub fn mend(self) -> DataPathStateTLV
         ensures { result ≡ mended self }
     {

@@ -20,6 +20,7 @@ fn unicast_length(second: bool) -> u16
 }
 
 impl DataPathStateTLV {
+    #[tactic(auto, unfolding(crate::specs::Bytes::sum))]
     pub(crate) fn sum(self) -> usize
         ensures { result ≡ B.sum self }
     {
