@@ -1,6 +1,7 @@
 -- What goes only with another adds nothing to it, and what is zero where it is missing is itself: by cases on Booleans.
 -- Assumes nothing.
 use Prim.Native.Nat.{ℕ}
+use Rattle.data_path_state.specs.Consistent.{is_zero}
 use Rattle.wire.proofs.Tests.{all_true, nth}
 use borrow.Author.Tests.{eqb-true}
 use lib.Dec.{eqb}
@@ -12,9 +13,6 @@ use mathlib.Core.Path.{◌≡◌, refl, sym, ◌∙◌}
 infixl 35 ◌and◌
 pub ◌and◌ : {a b : Bool} → a ≡ true → b ≡ true → (a && b) ≡ true
 ◌and◌ {a} {b} p q = (and-eq-true_iff a b).1 (p, q)
-
-abbrev pub is_zero : ℕ → Bool
-is_zero n = eqb n 0
 
 -- numbers that all pass that test
 pub each-zero : (ns : List ℕ) → all_true true (map is_zero ns) ≡ true → (i : ℕ) → get_or ns i 0 ≡ 0

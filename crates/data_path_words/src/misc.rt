@@ -69,7 +69,8 @@ impl From<u16> for DataPathChannel {
         if value % 2 == 1 {
             return DataPathChannel::ChannelMap(ChannelMap(value & ChannelMap::KEEP));
         }
-        DataPathChannel::SingleChannel((value % 256) as u8)
+        let [low, _] = value.to_le_bytes();
+        DataPathChannel::SingleChannel(low)
     }
 }
 
@@ -164,6 +165,7 @@ impl UnicastOptions {
     // What `from_bits` keeps, told from the other side: all but bits 0, 2, 4, 7 and 8, which have no name.
     pub const KEEP: u32 = !(1 << 0 | 1 << 2 | 1 << 4 | 1 << 7 | 1 << 8);
 
+    // It stands beside `DataPathExtendedFlags::from_bits` and in no trait with it: but for `bits & mask` they differ in all that they say.
     pub fn from_bits(bits: u32) -> UnicastOptions
         ensures { result.0 ≡ word_by options_kept bits }
     {
