@@ -1,63 +1,78 @@
 // Channels and their encodings.
-use crate::calls;
-use crate::numbers::{Numbers, Said, byte_at, none, one, refused, sized};
-use channel::{Channel, ChannelEncoding, Corrected, FoundEncoding, LegacyFlags};
+use crate::output::{Answered, Fault, Output};
+use crate::record::{Pass, Record};
+use crate::words::Words;
+use channel::{Channel, ChannelEncoding, LegacyFlags};
 
-pub(crate) fn record_of(v: &[u64; 32]) -> Channel {
-    Channel {
-        encoding: byte_at(v, 0),
-        first: byte_at(v, 1),
-        second: byte_at(v, 2),
+#[derive(Clone, Copy, Debug, PartialEq, Eq, Hash)]
+pub(crate) enum ChannelCall {
+    Channel,
+    Encoding,
+    EncodingSize,
+    EntrySize,
+    LegacyFlags,
+    SupportChannel,
+    Bandwidth,
+    Band,
+}
+
+const ENCODINGS: [(&str, ChannelEncoding); 3] = [
+    ("simple", ChannelEncoding::Simple),
+    ("legacy", ChannelEncoding::Legacy),
+    ("opclass", ChannelEncoding::OpClass),
+];
+
+impl Record for Channel {
+    fn through<P: Pass>(self, fields: &mut P) -> Result<Channel, Fault> {
+        Ok(Channel {
+            encoding: fields.pass(b"encoding=", self.encoding)?,
+            first: fields.pass(b"first=", self.first)?,
+            second: fields.pass(b"second=", self.second)?,
+        })
     }
 }
 
-pub(crate) fn numbers_of(channel: Channel) -> Numbers {
-    none()
-        .byte(channel.encoding)
-        .byte(channel.first)
-        .byte(channel.second)
-}
-
-fn corrected(v: &[u64; 32]) -> Said {
-    match record_of(v).channel() {
-        Corrected::Channel(n) => one(n as u64),
-        Corrected::Refused(why) => refused(why),
-    }
-}
-
-fn encoding_number(known: ChannelEncoding) -> u64 {
-    match known {
+fn encoding_number(encoding: ChannelEncoding) -> u8 {
+    match encoding {
         ChannelEncoding::Simple => 0,
         ChannelEncoding::Legacy => 1,
         ChannelEncoding::OpClass => 3,
     }
 }
 
-fn encoding(bits: u8) -> Said {
-    match ChannelEncoding::from_bits(bits) {
-        FoundEncoding::Known(known) => one(encoding_number(known)),
-        FoundEncoding::Refused(why) => refused(why),
-    }
+fn encoding(words: Words<'_>, out: &mut Output) -> Answered {
+    let found = ChannelEncoding::try_from(words.only_value::<u8>()?);
+    out.number(b"encoding=", found.map(encoding_number))
 }
 
-fn encoding_of(kind: u8) -> ChannelEncoding {
-    match kind {
-        0 => ChannelEncoding::Simple,
-        1 => ChannelEncoding::Legacy,
-        _ => ChannelEncoding::OpClass,
-    }
+fn entry_size(mut words: Words<'_>, out: &mut Output) -> Answered {
+    let encoding = words.among(&ENCODINGS)?;
+    words.end()?;
+    out.number(b"size=", Ok(encoding.entry_size()))
 }
 
-pub(crate) fn answer(call: usize, v: &[u64; 32]) -> Said {
-    let bits = byte_at(v, 0);
+fn flags(words: Words<'_>) -> Result<LegacyFlags, Fault> {
+    Ok(LegacyFlags(words.only_value()?))
+}
+
+pub(crate) fn answer(call: ChannelCall, words: Words<'_>, out: &mut Output) -> Answered {
     match call {
-        calls::CHANNEL => corrected(v),
-        calls::ENCODING => encoding(bits),
-        calls::ENCODING_SIZE => sized(ChannelEncoding::size(bits)),
-        calls::ENTRY_SIZE => one(encoding_of(bits).entry_size() as u64),
-        calls::LEGACY_FLAGS => one(LegacyFlags::from_bits(bits).0 as u64),
-        calls::SUPPORT_CHANNEL => one(LegacyFlags(bits).support_channel() as u64),
-        calls::CHANNEL_BANDWIDTH => one(LegacyFlags(bits).channel_bandwidth() as u64),
-        _ => one(LegacyFlags(bits).band() as u64),
+        ChannelCall::Channel => {
+            let channel: Channel = words.only_record()?;
+            out.number(b"channel=", channel.channel())
+        }
+        ChannelCall::Encoding => encoding(words, out),
+        ChannelCall::EncodingSize => {
+            let bits: u8 = words.only_value()?;
+            out.number(b"size=", ChannelEncoding::size(bits))
+        }
+        ChannelCall::EntrySize => entry_size(words, out),
+        ChannelCall::LegacyFlags => {
+            let bits: u8 = words.only_value()?;
+            out.number(b"bits=", Ok(LegacyFlags::from_bits(bits).0))
+        }
+        ChannelCall::SupportChannel => { out.number(b"bits=", Ok(flags(words)?.support_channel())) }
+        ChannelCall::Bandwidth => out.number(b"bits=", Ok(flags(words)?.channel_bandwidth())),
+        ChannelCall::Band => out.number(b"bits=", Ok(flags(words)?.band())),
     }
 }

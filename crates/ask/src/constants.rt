@@ -1,176 +1,287 @@
 // The numbers that have names.
-use crate::fields::show_list;
-use crate::numbers::{Numbers, none};
-use crate::output::{Output, text};
-use crate::words::{nth, put_text};
+use crate::output::{Answered, Fault, Output};
+use crate::words::Words;
 use action_frame::AWDLActionFrame;
 use channel::LegacyFlags;
 use channel_sequence_tlv::ChannelSequenceTLV;
 use data_path_state::{
     ChannelMap, DataPathExtendedFlags, DataPathFlags, DataPathStateTLV, UnicastOptions,
 };
+use std::io::Write;
 use synchronization_parameters::SynchronizationParametersTLV;
 use tlvs::AWDLTLVType;
 
-// The names of each group as a list of fields, a line for each group.
-fn put_names(buf: &mut [u8; 2048]) -> usize {
-    wire::put_slice(
-        buf,
-        0,
-        b"8NULL= 8SERVICE_RESPONSE= 8SYNCHRONIZATION_PARAMETERS= 8ELECTION_PARAMETERS= 8HT_CAPABILITIES= \
-        8DATA_PATH_STATE= 8ARPA= 8IEEE80211_CONTAINER= 8CHANNEL_SEQUENCE= 8SYNCHRONIZATION_TREE= 8VERSION= \
-        8ELECTION_PARAMETERS_V2= 8DATA_PATH_TLV_TYPE= 8SYNCHRONIZATION_TLV_TYPE= 8CHANNEL_SEQUENCE_TLV_TYPE=\n\
-        8HEADER_SIZE= 8DATA_PATH_MIN_SIZE= 8DATA_PATH_MAX_SIZE= 8SYNCHRONIZATION_MIN_SIZE= \
-        8SYNCHRONIZATION_MAX_SIZE= 8CHANNEL_SEQUENCE_MIN_SIZE= 8CHANNEL_SEQUENCE_MAX_SIZE=\n\
-        8PSF= 8MIF=\n\
-        8INFRA_BSSID_CHANNEL_PRESENT= 8INFRA_ADDRESS_PRESENT= 8AWDL_ADDRESS_PRESENT= 8RSDB_SUPPORT= 8IS_UMI= \
-        8DUALBAND_SUPPORT= 8AIRPLAY_SINK= 8FOLLOW_CHANNEL_SEQUENCE= 8COUNTRY_CODE_PRESENT= 8CHANNEL_MAP_PRESENT= \
-        8AIRPLAY_SOLO_MODE_SUPPORT= 8UMI_SUPPORT= 8UNICAST_OPTIONS_PRESENT= 8IS_REALTIME= 8RANGEABLE= 8EXTENDED_FLAGS=\n\
-        8LOG_TRIGGER_ID_PRESENT= 8RANGING_DISCOVERY_SUPPORTED= 8RLFC_PRESENT= 8IS_SOCIAL_CHANNEL_MAP_SUPPORTED= \
-        8DYNAMIC_SDB_ACTIVE= 8STATS_PRESENT= 8DFS_PROXY_SUPPORT= 8HIGH_EFFICIENCY_SUPPORT= 8IS_SIDEKICK_HUB= \
-        8FAST_DISCOVERY_ACTIVE= 8WIFI_SIX_E_SUPPORT= 8ULTRA_LOW_LATENCY_INFRA_SUPPORT= 8PRO_MODE_ACTIVE= 8UNKNOWN= 8KEEP=\n\
-        8START_AIRPLAY= 8CACHE_REQUEST= 8JUMPSTART_DFS_PROXY= 8AIRPLAY_ON_DFS_CHANNEL= 8START_SIDECAR= \
-        8SIDECAR_BG_REQUEST= 8SIDECAR_FG_REQUEST= 8STOP_SIDECAR= 8START_MULTI_PEER_STEERING= 8START_REAL_TIME_MODE= \
-        8STOP_REAL_TIME_MODE= 8START_AIRPLAY_RECOVERY= 8START_HT_MODE= 8STOP_HT_MODE= 8STOP_AIRPLAY= \
-        8FAILED_MULTI_PEER_STEERING= 8UNKNOWN= 8START_RTG_ENSEMBLE= 8STOP_RTG_ENSEMBLE= 8START_AIRPLAY_IN_RTG_MODE= \
-        8STOP_AIRPLAY_IN_RTG_MODE= 8START_SIDECAR_IN_RTG_MODE= 8STOP_SIDECAR_IN_RTG_MODE= 8START_REMOTE_CAMERA= \
-        8STOP_REMOTE_CAMERA= 8KEEP=\n\
-        8CHANNEL_6= 8CHANNEL_44= 8CHANNEL_149= 8KEEP=\n\
-        8KEEP=",
-    )
-}
+const TYPES: [(&str, u64); 15] = [
+    ("NULL", AWDLTLVType::NULL as u64),
+    ("SERVICE_RESPONSE", AWDLTLVType::SERVICE_RESPONSE as u64),
+    (
+        "SYNCHRONIZATION_PARAMETERS",
+        AWDLTLVType::SYNCHRONIZATION_PARAMETERS as u64,
+    ),
+    (
+        "ELECTION_PARAMETERS",
+        AWDLTLVType::ELECTION_PARAMETERS as u64,
+    ),
+    ("HT_CAPABILITIES", AWDLTLVType::HT_CAPABILITIES as u64),
+    ("DATA_PATH_STATE", AWDLTLVType::DATA_PATH_STATE as u64),
+    ("ARPA", AWDLTLVType::ARPA as u64),
+    (
+        "IEEE80211_CONTAINER",
+        AWDLTLVType::IEEE80211_CONTAINER as u64,
+    ),
+    ("CHANNEL_SEQUENCE", AWDLTLVType::CHANNEL_SEQUENCE as u64),
+    (
+        "SYNCHRONIZATION_TREE",
+        AWDLTLVType::SYNCHRONIZATION_TREE as u64,
+    ),
+    ("VERSION", AWDLTLVType::VERSION as u64),
+    (
+        "ELECTION_PARAMETERS_V2",
+        AWDLTLVType::ELECTION_PARAMETERS_V2 as u64,
+    ),
+    ("DATA_PATH_TLV_TYPE", DataPathStateTLV::TLV_TYPE as u64),
+    (
+        "SYNCHRONIZATION_TLV_TYPE",
+        SynchronizationParametersTLV::TLV_TYPE as u64,
+    ),
+    (
+        "CHANNEL_SEQUENCE_TLV_TYPE",
+        ChannelSequenceTLV::TLV_TYPE as u64,
+    ),
+];
 
-fn types() -> Numbers {
-    none()
-        .byte(AWDLTLVType::NULL)
-        .byte(AWDLTLVType::SERVICE_RESPONSE)
-        .byte(AWDLTLVType::SYNCHRONIZATION_PARAMETERS)
-        .byte(AWDLTLVType::ELECTION_PARAMETERS)
-        .byte(AWDLTLVType::HT_CAPABILITIES)
-        .byte(AWDLTLVType::DATA_PATH_STATE)
-        .byte(AWDLTLVType::ARPA)
-        .byte(AWDLTLVType::IEEE80211_CONTAINER)
-        .byte(AWDLTLVType::CHANNEL_SEQUENCE)
-        .byte(AWDLTLVType::SYNCHRONIZATION_TREE)
-        .byte(AWDLTLVType::VERSION)
-        .byte(AWDLTLVType::ELECTION_PARAMETERS_V2)
-        .byte(DataPathStateTLV::TLV_TYPE)
-        .byte(SynchronizationParametersTLV::TLV_TYPE)
-        .byte(ChannelSequenceTLV::TLV_TYPE)
-}
+const SIZES: [(&str, u64); 7] = [
+    ("HEADER_SIZE", AWDLActionFrame::HEADER_SIZE as u64),
+    ("DATA_PATH_MIN_SIZE", DataPathStateTLV::MIN_SIZE as u64),
+    ("DATA_PATH_MAX_SIZE", DataPathStateTLV::MAX_SIZE as u64),
+    (
+        "SYNCHRONIZATION_MIN_SIZE",
+        SynchronizationParametersTLV::MIN_SIZE as u64,
+    ),
+    (
+        "SYNCHRONIZATION_MAX_SIZE",
+        SynchronizationParametersTLV::MAX_SIZE as u64,
+    ),
+    (
+        "CHANNEL_SEQUENCE_MIN_SIZE",
+        ChannelSequenceTLV::MIN_SIZE as u64,
+    ),
+    (
+        "CHANNEL_SEQUENCE_MAX_SIZE",
+        ChannelSequenceTLV::MAX_SIZE as u64,
+    ),
+];
 
-fn sizes() -> Numbers {
-    none()
-        .size(AWDLActionFrame::HEADER_SIZE)
-        .size(DataPathStateTLV::MIN_SIZE)
-        .size(DataPathStateTLV::MAX_SIZE)
-        .size(SynchronizationParametersTLV::MIN_SIZE)
-        .size(SynchronizationParametersTLV::MAX_SIZE)
-        .size(ChannelSequenceTLV::MIN_SIZE)
-        .size(ChannelSequenceTLV::MAX_SIZE)
-}
+const SUBTYPES: [(&str, u64); 2] = [
+    ("PSF", AWDLActionFrame::PSF as u64),
+    ("MIF", AWDLActionFrame::MIF as u64),
+];
 
-fn subtypes() -> Numbers {
-    none().byte(AWDLActionFrame::PSF).byte(AWDLActionFrame::MIF)
-}
+const DATA_PATH_FLAGS: [(&str, u64); 16] = [
+    (
+        "INFRA_BSSID_CHANNEL_PRESENT",
+        DataPathFlags::INFRA_BSSID_CHANNEL_PRESENT as u64,
+    ),
+    (
+        "INFRA_ADDRESS_PRESENT",
+        DataPathFlags::INFRA_ADDRESS_PRESENT as u64,
+    ),
+    (
+        "AWDL_ADDRESS_PRESENT",
+        DataPathFlags::AWDL_ADDRESS_PRESENT as u64,
+    ),
+    ("RSDB_SUPPORT", DataPathFlags::RSDB_SUPPORT as u64),
+    ("IS_UMI", DataPathFlags::IS_UMI as u64),
+    ("DUALBAND_SUPPORT", DataPathFlags::DUALBAND_SUPPORT as u64),
+    ("AIRPLAY_SINK", DataPathFlags::AIRPLAY_SINK as u64),
+    (
+        "FOLLOW_CHANNEL_SEQUENCE",
+        DataPathFlags::FOLLOW_CHANNEL_SEQUENCE as u64,
+    ),
+    (
+        "COUNTRY_CODE_PRESENT",
+        DataPathFlags::COUNTRY_CODE_PRESENT as u64,
+    ),
+    (
+        "CHANNEL_MAP_PRESENT",
+        DataPathFlags::CHANNEL_MAP_PRESENT as u64,
+    ),
+    (
+        "AIRPLAY_SOLO_MODE_SUPPORT",
+        DataPathFlags::AIRPLAY_SOLO_MODE_SUPPORT as u64,
+    ),
+    ("UMI_SUPPORT", DataPathFlags::UMI_SUPPORT as u64),
+    (
+        "UNICAST_OPTIONS_PRESENT",
+        DataPathFlags::UNICAST_OPTIONS_PRESENT as u64,
+    ),
+    ("IS_REALTIME", DataPathFlags::IS_REALTIME as u64),
+    ("RANGEABLE", DataPathFlags::RANGEABLE as u64),
+    ("EXTENDED_FLAGS", DataPathFlags::EXTENDED_FLAGS as u64),
+];
 
-fn data_path_flags() -> Numbers {
-    none()
-        .word(DataPathFlags::INFRA_BSSID_CHANNEL_PRESENT)
-        .word(DataPathFlags::INFRA_ADDRESS_PRESENT)
-        .word(DataPathFlags::AWDL_ADDRESS_PRESENT)
-        .word(DataPathFlags::RSDB_SUPPORT)
-        .word(DataPathFlags::IS_UMI)
-        .word(DataPathFlags::DUALBAND_SUPPORT)
-        .word(DataPathFlags::AIRPLAY_SINK)
-        .word(DataPathFlags::FOLLOW_CHANNEL_SEQUENCE)
-        .word(DataPathFlags::COUNTRY_CODE_PRESENT)
-        .word(DataPathFlags::CHANNEL_MAP_PRESENT)
-        .word(DataPathFlags::AIRPLAY_SOLO_MODE_SUPPORT)
-        .word(DataPathFlags::UMI_SUPPORT)
-        .word(DataPathFlags::UNICAST_OPTIONS_PRESENT)
-        .word(DataPathFlags::IS_REALTIME)
-        .word(DataPathFlags::RANGEABLE)
-        .word(DataPathFlags::EXTENDED_FLAGS)
-}
+const EXTENDED_FLAGS: [(&str, u64); 15] = [
+    (
+        "LOG_TRIGGER_ID_PRESENT",
+        DataPathExtendedFlags::LOG_TRIGGER_ID_PRESENT as u64,
+    ),
+    (
+        "RANGING_DISCOVERY_SUPPORTED",
+        DataPathExtendedFlags::RANGING_DISCOVERY_SUPPORTED as u64,
+    ),
+    ("RLFC_PRESENT", DataPathExtendedFlags::RLFC_PRESENT as u64),
+    (
+        "IS_SOCIAL_CHANNEL_MAP_SUPPORTED",
+        DataPathExtendedFlags::IS_SOCIAL_CHANNEL_MAP_SUPPORTED as u64,
+    ),
+    (
+        "DYNAMIC_SDB_ACTIVE",
+        DataPathExtendedFlags::DYNAMIC_SDB_ACTIVE as u64,
+    ),
+    ("STATS_PRESENT", DataPathExtendedFlags::STATS_PRESENT as u64),
+    (
+        "DFS_PROXY_SUPPORT",
+        DataPathExtendedFlags::DFS_PROXY_SUPPORT as u64,
+    ),
+    (
+        "HIGH_EFFICIENCY_SUPPORT",
+        DataPathExtendedFlags::HIGH_EFFICIENCY_SUPPORT as u64,
+    ),
+    (
+        "IS_SIDEKICK_HUB",
+        DataPathExtendedFlags::IS_SIDEKICK_HUB as u64,
+    ),
+    (
+        "FAST_DISCOVERY_ACTIVE",
+        DataPathExtendedFlags::FAST_DISCOVERY_ACTIVE as u64,
+    ),
+    (
+        "WIFI_SIX_E_SUPPORT",
+        DataPathExtendedFlags::WIFI_SIX_E_SUPPORT as u64,
+    ),
+    (
+        "ULTRA_LOW_LATENCY_INFRA_SUPPORT",
+        DataPathExtendedFlags::ULTRA_LOW_LATENCY_INFRA_SUPPORT as u64,
+    ),
+    (
+        "PRO_MODE_ACTIVE",
+        DataPathExtendedFlags::PRO_MODE_ACTIVE as u64,
+    ),
+    ("UNKNOWN", DataPathExtendedFlags::UNKNOWN as u64),
+    ("KEEP", DataPathExtendedFlags::KEEP as u64),
+];
 
-fn extended_flags() -> Numbers {
-    none()
-        .word(DataPathExtendedFlags::LOG_TRIGGER_ID_PRESENT)
-        .word(DataPathExtendedFlags::RANGING_DISCOVERY_SUPPORTED)
-        .word(DataPathExtendedFlags::RLFC_PRESENT)
-        .word(DataPathExtendedFlags::IS_SOCIAL_CHANNEL_MAP_SUPPORTED)
-        .word(DataPathExtendedFlags::DYNAMIC_SDB_ACTIVE)
-        .word(DataPathExtendedFlags::STATS_PRESENT)
-        .word(DataPathExtendedFlags::DFS_PROXY_SUPPORT)
-        .word(DataPathExtendedFlags::HIGH_EFFICIENCY_SUPPORT)
-        .word(DataPathExtendedFlags::IS_SIDEKICK_HUB)
-        .word(DataPathExtendedFlags::FAST_DISCOVERY_ACTIVE)
-        .word(DataPathExtendedFlags::WIFI_SIX_E_SUPPORT)
-        .word(DataPathExtendedFlags::ULTRA_LOW_LATENCY_INFRA_SUPPORT)
-        .word(DataPathExtendedFlags::PRO_MODE_ACTIVE)
-        .word(DataPathExtendedFlags::UNKNOWN)
-        .word(DataPathExtendedFlags::KEEP)
-}
+const UNICAST_OPTIONS: [(&str, u64); 26] = [
+    ("START_AIRPLAY", UnicastOptions::START_AIRPLAY as u64),
+    ("CACHE_REQUEST", UnicastOptions::CACHE_REQUEST as u64),
+    (
+        "JUMPSTART_DFS_PROXY",
+        UnicastOptions::JUMPSTART_DFS_PROXY as u64,
+    ),
+    (
+        "AIRPLAY_ON_DFS_CHANNEL",
+        UnicastOptions::AIRPLAY_ON_DFS_CHANNEL as u64,
+    ),
+    ("START_SIDECAR", UnicastOptions::START_SIDECAR as u64),
+    (
+        "SIDECAR_BG_REQUEST",
+        UnicastOptions::SIDECAR_BG_REQUEST as u64,
+    ),
+    (
+        "SIDECAR_FG_REQUEST",
+        UnicastOptions::SIDECAR_FG_REQUEST as u64,
+    ),
+    ("STOP_SIDECAR", UnicastOptions::STOP_SIDECAR as u64),
+    (
+        "START_MULTI_PEER_STEERING",
+        UnicastOptions::START_MULTI_PEER_STEERING as u64,
+    ),
+    (
+        "START_REAL_TIME_MODE",
+        UnicastOptions::START_REAL_TIME_MODE as u64,
+    ),
+    (
+        "STOP_REAL_TIME_MODE",
+        UnicastOptions::STOP_REAL_TIME_MODE as u64,
+    ),
+    (
+        "START_AIRPLAY_RECOVERY",
+        UnicastOptions::START_AIRPLAY_RECOVERY as u64,
+    ),
+    ("START_HT_MODE", UnicastOptions::START_HT_MODE as u64),
+    ("STOP_HT_MODE", UnicastOptions::STOP_HT_MODE as u64),
+    ("STOP_AIRPLAY", UnicastOptions::STOP_AIRPLAY as u64),
+    (
+        "FAILED_MULTI_PEER_STEERING",
+        UnicastOptions::FAILED_MULTI_PEER_STEERING as u64,
+    ),
+    ("UNKNOWN", UnicastOptions::UNKNOWN as u64),
+    (
+        "START_RTG_ENSEMBLE",
+        UnicastOptions::START_RTG_ENSEMBLE as u64,
+    ),
+    (
+        "STOP_RTG_ENSEMBLE",
+        UnicastOptions::STOP_RTG_ENSEMBLE as u64,
+    ),
+    (
+        "START_AIRPLAY_IN_RTG_MODE",
+        UnicastOptions::START_AIRPLAY_IN_RTG_MODE as u64,
+    ),
+    (
+        "STOP_AIRPLAY_IN_RTG_MODE",
+        UnicastOptions::STOP_AIRPLAY_IN_RTG_MODE as u64,
+    ),
+    (
+        "START_SIDECAR_IN_RTG_MODE",
+        UnicastOptions::START_SIDECAR_IN_RTG_MODE as u64,
+    ),
+    (
+        "STOP_SIDECAR_IN_RTG_MODE",
+        UnicastOptions::STOP_SIDECAR_IN_RTG_MODE as u64,
+    ),
+    (
+        "START_REMOTE_CAMERA",
+        UnicastOptions::START_REMOTE_CAMERA as u64,
+    ),
+    (
+        "STOP_REMOTE_CAMERA",
+        UnicastOptions::STOP_REMOTE_CAMERA as u64,
+    ),
+    ("KEEP", UnicastOptions::KEEP as u64),
+];
 
-fn unicast_options() -> Numbers {
-    none()
-        .long(UnicastOptions::START_AIRPLAY)
-        .long(UnicastOptions::CACHE_REQUEST)
-        .long(UnicastOptions::JUMPSTART_DFS_PROXY)
-        .long(UnicastOptions::AIRPLAY_ON_DFS_CHANNEL)
-        .long(UnicastOptions::START_SIDECAR)
-        .long(UnicastOptions::SIDECAR_BG_REQUEST)
-        .long(UnicastOptions::SIDECAR_FG_REQUEST)
-        .long(UnicastOptions::STOP_SIDECAR)
-        .long(UnicastOptions::START_MULTI_PEER_STEERING)
-        .long(UnicastOptions::START_REAL_TIME_MODE)
-        .long(UnicastOptions::STOP_REAL_TIME_MODE)
-        .long(UnicastOptions::START_AIRPLAY_RECOVERY)
-        .long(UnicastOptions::START_HT_MODE)
-        .long(UnicastOptions::STOP_HT_MODE)
-        .long(UnicastOptions::STOP_AIRPLAY)
-        .long(UnicastOptions::FAILED_MULTI_PEER_STEERING)
-        .long(UnicastOptions::UNKNOWN)
-        .long(UnicastOptions::START_RTG_ENSEMBLE)
-        .long(UnicastOptions::STOP_RTG_ENSEMBLE)
-        .long(UnicastOptions::START_AIRPLAY_IN_RTG_MODE)
-        .long(UnicastOptions::STOP_AIRPLAY_IN_RTG_MODE)
-        .long(UnicastOptions::START_SIDECAR_IN_RTG_MODE)
-        .long(UnicastOptions::STOP_SIDECAR_IN_RTG_MODE)
-        .long(UnicastOptions::START_REMOTE_CAMERA)
-        .long(UnicastOptions::STOP_REMOTE_CAMERA)
-        .long(UnicastOptions::KEEP)
-}
+const CHANNEL_MAP: [(&str, u64); 4] = [
+    ("CHANNEL_6", ChannelMap::CHANNEL_6 as u64),
+    ("CHANNEL_44", ChannelMap::CHANNEL_44 as u64),
+    ("CHANNEL_149", ChannelMap::CHANNEL_149 as u64),
+    ("KEEP", ChannelMap::KEEP as u64),
+];
 
-fn channel_map() -> Numbers {
-    none()
-        .word(ChannelMap::CHANNEL_6)
-        .word(ChannelMap::CHANNEL_44)
-        .word(ChannelMap::CHANNEL_149)
-        .word(ChannelMap::KEEP)
-}
+const LEGACY_FLAGS: [(&str, u64); 1] = [("KEEP", LegacyFlags::KEEP as u64)];
 
-fn numbers_of(group: usize) -> Numbers {
-    match group {
-        0 => types(),
-        1 => sizes(),
-        2 => subtypes(),
-        3 => data_path_flags(),
-        4 => extended_flags(),
-        5 => unicast_options(),
-        6 => channel_map(),
-        _ => none().byte(LegacyFlags::KEEP),
+fn group_of(word: &[u8]) -> Option<&'static [(&'static str, u64)]> {
+    match word {
+        b"types" => Some(&TYPES),
+        b"sizes" => Some(&SIZES),
+        b"subtypes" => Some(&SUBTYPES),
+        b"data_path_flags" => Some(&DATA_PATH_FLAGS),
+        b"extended_flags" => Some(&EXTENDED_FLAGS),
+        b"unicast_options" => Some(&UNICAST_OPTIONS),
+        b"channel_map" => Some(&CHANNEL_MAP),
+        b"legacy_flags" => Some(&LEGACY_FLAGS),
+        _ => None,
     }
 }
 
-pub(crate) fn constants(group: usize, out: &mut Output, at: usize) -> usize {
-    let numbers = numbers_of(group);
-    let v = numbers.list;
-    let bytes = numbers.bytes;
-    let mut buf = [0u8; 2048];
-    let n = put_names(&mut buf);
-    let names = nth(put_text(&buf, n), group, b'\n');
-    let behind_why = text(out, at, b"0 offset=0");
-    show_list(out, behind_why, names, &v, &bytes)
+pub(crate) fn answer(mut words: Words<'_>, out: &mut Output) -> Answered {
+    let Some(group) = group_of(words.next()) else {
+        return Err(Fault::BadQuestion);
+    };
+    words.end()?;
+    out.accepted()?;
+    for (name, number) in group {
+        write!(out, " {name}={number}")?;
+    }
+    Ok(())
 }

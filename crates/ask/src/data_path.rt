@@ -1,245 +1,245 @@
 // Data path records.
-use crate::calls;
-use crate::fields::{address_of, byte, long, word};
-use crate::numbers::{
-    Numbers, Said, byte_at, flag_at, long_at, none, number_at, one, refused, sized, word_at,
-    yes_or_no,
-};
+use crate::buffers::Buffers;
+use crate::output::{Answered, Fault, Output};
+use crate::record::{Pass, Record};
+use crate::value::{Value, among, name_of};
+use crate::words::Words;
 use data_path_state::{
     ChannelMap, CountryCode, DataPathChannel, DataPathExtendedFlags, DataPathFlags,
-    DataPathStateTLV, DataPathStats, InfraBssidChannel, OptionalAddress, OptionalChannel,
-    OptionalExtendedFlags, OptionalOptions, OptionalStats, OptionalTriggerId, OptionalWord,
-    ReadDataPathState, UnicastOptions,
+    DataPathStateTLV, DataPathStats, InfraBssidChannel, Optional, UnicastOptions,
 };
-use wire::Size;
+use std::io;
+use std::io::Write;
 
-// Where the parts of a record stand among the numbers of a question, each behind the one before it. Behind them stands how long the buffer is.
-const COUNTRY: usize = 1;
-
-const CHANNEL: usize = COUNTRY + 4;
-
-const BSSID: usize = CHANNEL + 3;
-
-const INFRA: usize = BSSID + 3;
-
-const AWDL: usize = INFRA + 2;
-
-const OPTIONS: usize = AWDL + 2;
-
-const EXT: usize = OPTIONS + 2;
-
-const EXTENDED: usize = EXT + 2;
-
-const RLFC: usize = EXTENDED + 2;
-
-const TRIGGER: usize = RLFC + 2;
-
-const STATS: usize = TRIGGER + 2;
-
-pub(crate) const ROOM: usize = STATS + 4;
-
-fn channel_of(kind: u64, n: u64) -> DataPathChannel {
-    if kind == 0 {
-        return DataPathChannel::SingleChannel(byte(n));
-    }
-    DataPathChannel::ChannelMap(ChannelMap(word(n)))
+#[derive(Clone, Copy, Debug, PartialEq, Eq, Hash)]
+pub(crate) enum DataPathCall {
+    Read,
+    Consistent,
+    Mend,
+    Size,
+    ChannelWord,
+    WordOfChannel,
+    UnicastOptions,
+    ExtendedFlags,
+    Has,
+    Write,
 }
 
-fn country(v: &[u64; 32]) -> CountryCode {
-    CountryCode {
-        present: flag_at(v, COUNTRY),
-        first: byte_at(v, COUNTRY + 1),
-        second: byte_at(v, COUNTRY + 2),
-        pad: byte_at(v, COUNTRY + 3),
+// The kind of a channel, which its word tells.
+#[derive(Clone, Copy, Debug, PartialEq, Eq, Hash)]
+enum Kind {
+    Single,
+    Map,
+}
+
+const KINDS: [(&str, Kind); 2] = [("single", Kind::Single), ("map", Kind::Map)];
+
+impl Value for Kind {
+    fn of(word: &[u8]) -> Option<Kind> {
+        among(&KINDS, word)
+    }
+
+    fn show(self, out: &mut Output) -> io::Result<()> {
+        out.write_all(name_of(&KINDS, self))
     }
 }
 
-fn channel(v: &[u64; 32]) -> OptionalChannel {
-    OptionalChannel {
-        present: flag_at(v, CHANNEL),
-        channel: channel_of(number_at(v, CHANNEL + 1), number_at(v, CHANNEL + 2)),
-    }
-}
-
-fn infra(v: &[u64; 32]) -> InfraBssidChannel {
-    InfraBssidChannel {
-        present: flag_at(v, BSSID),
-        bssid: address_of(number_at(v, BSSID + 1)),
-        channel: word_at(v, BSSID + 2),
-    }
-}
-
-fn address(present: bool, n: u64) -> OptionalAddress {
-    OptionalAddress {
-        present,
-        address: address_of(n),
-    }
-}
-
-fn options(v: &[u64; 32]) -> OptionalOptions {
-    OptionalOptions {
-        present: flag_at(v, OPTIONS),
-        options: UnicastOptions(long_at(v, OPTIONS + 1)),
-    }
-}
-
-fn optional(present: bool, n: u64) -> OptionalWord {
-    OptionalWord {
-        present,
-        word: long(n),
-    }
-}
-
-fn extended(v: &[u64; 32]) -> OptionalExtendedFlags {
-    OptionalExtendedFlags {
-        present: flag_at(v, EXTENDED),
-        flags: DataPathExtendedFlags(word_at(v, EXTENDED + 1)),
-    }
-}
-
-fn trigger(v: &[u64; 32]) -> OptionalTriggerId {
-    OptionalTriggerId {
-        present: flag_at(v, TRIGGER),
-        id: word_at(v, TRIGGER + 1),
-    }
-}
-
-fn stats(v: &[u64; 32]) -> OptionalStats {
-    OptionalStats {
-        present: flag_at(v, STATS),
-        stats: DataPathStats {
-            msec_since_activation: long_at(v, STATS + 1),
-            aw_seq_counter: long_at(v, STATS + 2),
-            pay_update_coutner: long_at(v, STATS + 3),
-        },
-    }
-}
-
-fn record_of(v: &[u64; 32]) -> DataPathStateTLV {
-    DataPathStateTLV {
-        flags: DataPathFlags(word_at(v, 0)),
-        country_code: country(v),
-        channel_map: channel(v),
-        infra_bssid_channel: infra(v),
-        infra_address: address(flag_at(v, INFRA), number_at(v, INFRA + 1)),
-        awdl_address: address(flag_at(v, AWDL), number_at(v, AWDL + 1)),
-        unicast_options: options(v),
-        unicast_options_ext: optional(flag_at(v, EXT), number_at(v, EXT + 1)),
-        extended_flags: extended(v),
-        rlfc: optional(flag_at(v, RLFC), number_at(v, RLFC + 1)),
-        log_trigger_id: trigger(v),
-        stats: stats(v),
-    }
-}
-
-impl Numbers {
-    fn channel(self, channel: DataPathChannel) -> Numbers {
-        match channel {
-            DataPathChannel::SingleChannel(n) => self.and(0).byte(n),
-            DataPathChannel::ChannelMap(map) => self.and(1).word(map.0),
+// A channel is as wide as its kind says.
+fn channel<P: Pass>(
+    fields: &mut P,
+    kind_name: &[u8],
+    name: &[u8],
+    channel: DataPathChannel,
+) -> Result<DataPathChannel, Fault> {
+    let (kind, single) = match channel {
+        DataPathChannel::SingleChannel(single) => (Kind::Single, single),
+        DataPathChannel::ChannelMap(_) => (Kind::Map, 0),
+    };
+    match fields.pass(kind_name, kind)? {
+        Kind::Single => Ok(DataPathChannel::SingleChannel(fields.pass(name, single)?)),
+        Kind::Map => {
+            let map = fields.pass(name, u16::from(channel))?;
+            Ok(DataPathChannel::ChannelMap(ChannelMap(map)))
         }
     }
+}
 
-    fn optional_address(self, a: OptionalAddress) -> Numbers {
-        let address = a.address;
-        self.flag(a.present).address(address)
-    }
-
-    fn optional_word(self, w: OptionalWord) -> Numbers {
-        self.flag(w.present).long(w.word)
-    }
-
-    fn options(self, o: OptionalOptions) -> Numbers {
-        let options = o.options;
-        self.flag(o.present).long(options.0)
-    }
-
-    fn extended(self, e: OptionalExtendedFlags) -> Numbers {
-        let flags = e.flags;
-        self.flag(e.present).word(flags.0)
-    }
-
-    fn stats(self, s: OptionalStats) -> Numbers {
-        let stats = s.stats;
-        self.flag(s.present)
-            .long(stats.msec_since_activation)
-            .long(stats.aw_seq_counter)
-            .long(stats.pay_update_coutner)
+impl Record for DataPathChannel {
+    fn through<P: Pass>(self, fields: &mut P) -> Result<DataPathChannel, Fault> {
+        channel(fields, b"channel_kind=", b"channel=", self)
     }
 }
 
-pub(crate) fn numbers_of(r: DataPathStateTLV) -> Numbers {
-    let flags = r.flags;
-    let country = r.country_code;
-    let map = r.channel_map;
-    let channel = map.channel;
-    let infra = r.infra_bssid_channel;
-    let bssid = infra.bssid;
-    let trigger = r.log_trigger_id;
-    none()
-        .word(flags.0)
-        .flag(country.present)
-        .byte(country.first)
-        .byte(country.second)
-        .byte(country.pad)
-        .flag(map.present)
-        .channel(channel)
-        .flag(infra.present)
-        .address(bssid)
-        .word(infra.channel)
-        .optional_address(r.infra_address)
-        .optional_address(r.awdl_address)
-        .options(r.unicast_options)
-        .optional_word(r.unicast_options_ext)
-        .extended(r.extended_flags)
-        .optional_word(r.rlfc)
-        .flag(trigger.present)
-        .word(trigger.id)
-        .stats(r.stats)
-}
-
-fn read(value: &[u8]) -> Said {
-    match DataPathStateTLV::read(value) {
-        ReadDataPathState::Read(record, size) => one(size as u64).with(numbers_of(record)),
-        ReadDataPathState::Refused(why) => refused(why),
+impl Record for CountryCode {
+    fn through<P: Pass>(self, fields: &mut P) -> Result<CountryCode, Fault> {
+        Ok(CountryCode {
+            first: fields.pass(b"country_first=", self.first)?,
+            second: fields.pass(b"country_second=", self.second)?,
+            pad: fields.pass(b"country_pad=", self.pad)?,
+        })
     }
 }
 
-// Only these and the writer hold a record: a function that holds one costs the proof much at each of its steps.
-fn consistent(v: &[u64; 32]) -> Said {
-    yes_or_no(record_of(v).consistent())
+impl Record for InfraBssidChannel {
+    fn through<P: Pass>(self, fields: &mut P) -> Result<InfraBssidChannel, Fault> {
+        Ok(InfraBssidChannel {
+            bssid: fields.pass(b"infra_bssid=", self.bssid)?,
+            channel: fields.pass(b"infra_channel=", self.channel)?,
+        })
+    }
 }
 
-fn mended(v: &[u64; 32]) -> Said {
-    one(0).with(numbers_of(record_of(v).mend()))
+impl Record for DataPathStats {
+    fn through<P: Pass>(self, fields: &mut P) -> Result<DataPathStats, Fault> {
+        Ok(DataPathStats {
+            msec_since_activation: fields.pass(
+                b"msec_since_activation=",
+                self.msec_since_activation,
+            )?,
+            aw_seq_counter: fields.pass(b"aw_seq_counter=", self.aw_seq_counter)?,
+            pay_update_coutner: fields.pass(b"pay_update_coutner=", self.pay_update_coutner)?,
+        })
+    }
 }
 
-fn size(v: &[u64; 32]) -> Said {
-    sized(record_of(v).size())
+// A part of the record that may be absent, with what stands there all the same.
+fn part<P: Pass, R: Record>(
+    fields: &mut P,
+    name: &[u8],
+    part: Optional<R>,
+) -> Result<Optional<R>, Fault> {
+    let present = fields.pass(name, part.present)?;
+    let value = part.value.through(fields)?;
+    Ok(Optional { present, value })
 }
 
-pub(crate) fn write(v: &[u64; 32], buf: &mut [u8]) -> Size {
-    record_of(v).write(buf)
+// The same of one value, which has a name of its own.
+fn field<P: Pass, T: Value>(
+    fields: &mut P,
+    name: &[u8],
+    value_name: &[u8],
+    field: Optional<T>,
+) -> Result<Optional<T>, Fault> {
+    let present = fields.pass(name, field.present)?;
+    let value = fields.pass(value_name, field.value)?;
+    Ok(Optional { present, value })
 }
 
-fn channel_word(v: &[u64; 32]) -> Said {
-    one(0).with(none().channel(DataPathChannel::from_u16(word_at(v, 0))))
+impl Value for UnicastOptions {
+    fn of(word: &[u8]) -> Option<UnicastOptions> {
+        Some(UnicastOptions(u32::of(word)?))
+    }
+
+    fn show(self, out: &mut Output) -> io::Result<()> {
+        self.0.show(out)
+    }
 }
 
-fn word_of_channel(v: &[u64; 32]) -> Said {
-    one(channel_of(number_at(v, 0), number_at(v, 1)).as_u16() as u64)
+impl Value for DataPathExtendedFlags {
+    fn of(word: &[u8]) -> Option<DataPathExtendedFlags> {
+        Some(DataPathExtendedFlags(u16::of(word)?))
+    }
+
+    fn show(self, out: &mut Output) -> io::Result<()> {
+        self.0.show(out)
+    }
 }
 
-pub(crate) fn answer(call: usize, v: &[u64; 32], bytes: &[u8]) -> Said {
+impl Record for DataPathStateTLV {
+    fn through<P: Pass>(self, fields: &mut P) -> Result<DataPathStateTLV, Fault> {
+        Ok(DataPathStateTLV {
+            flags: DataPathFlags(fields.pass(b"flags=", self.flags.0)?),
+            country_code: part(fields, b"country_code=", self.country_code)?,
+            channel_map: part(fields, b"channel_map=", self.channel_map)?,
+            infra_bssid_channel: part(fields, b"infra_bssid_channel=", self.infra_bssid_channel)?,
+            infra_address: field(fields, b"infra_address=", b"infra=", self.infra_address)?,
+            awdl_address: field(fields, b"awdl_address=", b"awdl=", self.awdl_address)?,
+            unicast_options: field(
+                fields,
+                b"unicast_options=",
+                b"options=",
+                self.unicast_options,
+            )?,
+            unicast_options_ext: field(
+                fields,
+                b"unicast_options_ext=",
+                b"ext=",
+                self.unicast_options_ext,
+            )?,
+            extended_flags: field(
+                fields,
+                b"extended_flags=",
+                b"extended=",
+                self.extended_flags,
+            )?,
+            rlfc: field(fields, b"rlfc=", b"rlfc_word=", self.rlfc)?,
+            log_trigger_id: field(
+                fields,
+                b"log_trigger_id=",
+                b"trigger_id=",
+                self.log_trigger_id,
+            )?,
+            stats: part(fields, b"stats=", self.stats)?,
+        })
+    }
+}
+
+fn word_of_channel(mut words: Words<'_>, out: &mut Output) -> Answered {
+    let channel = channel(&mut words, b"", b"", DataPathChannel::default())?;
+    words.end()?;
+    out.number(b"word=", Ok(u16::from(channel)))
+}
+
+fn has(mut words: Words<'_>, out: &mut Output) -> Answered {
+    let word: u16 = words.value()?;
+    let mask: u16 = words.only_value()?;
+    out.number(b"has=", Ok(data_path_words::has(word, mask)))
+}
+
+fn write(mut words: Words<'_>, buffers: &mut Buffers, out: &mut Output) -> Answered {
+    let record: DataPathStateTLV = words.record()?;
+    let lent = words.only_bytes(&mut buffers.lent)?;
+    let size = record.write(lent);
+    out.wrote(size, lent)
+}
+
+pub(crate) fn answer(
+    call: DataPathCall,
+    words: Words<'_>,
+    buffers: &mut Buffers,
+    out: &mut Output,
+) -> Answered {
     match call {
-        calls::DATA_PATH_READ => read(bytes),
-        calls::DATA_PATH_CONSISTENT => consistent(v),
-        calls::DATA_PATH_MEND => mended(v),
-        calls::DATA_PATH_SIZE => size(v),
-        calls::CHANNEL_WORD => channel_word(v),
-        calls::WORD_OF_CHANNEL => word_of_channel(v),
-        calls::UNICAST_OPTIONS => one(UnicastOptions::from_bits(long_at(v, 0)).0 as u64),
-        calls::EXTENDED_FLAGS => one(DataPathExtendedFlags::from_bits(word_at(v, 0)).0 as u64),
-        _ => yes_or_no(data_path_words::has(word_at(v, 0), word_at(v, 1))),
+        DataPathCall::Read => {
+            let value = words.only_bytes(&mut buffers.given)?;
+            out.read(b"size=", DataPathStateTLV::read(value))
+        }
+        DataPathCall::Consistent => {
+            let record: DataPathStateTLV = words.only_record()?;
+            out.number(b"consistent=", Ok(record.consistent()))
+        }
+        DataPathCall::Mend => {
+            let record: DataPathStateTLV = words.only_record()?;
+            out.record(Ok(record.mend()))
+        }
+        DataPathCall::Size => {
+            let record: DataPathStateTLV = words.only_record()?;
+            out.number(b"size=", record.size())
+        }
+        DataPathCall::ChannelWord => {
+            let word: u16 = words.only_value()?;
+            out.record(Ok(DataPathChannel::from(word)))
+        }
+        DataPathCall::WordOfChannel => word_of_channel(words, out),
+        DataPathCall::UnicastOptions => {
+            let bits: u32 = words.only_value()?;
+            out.number(b"bits=", Ok(UnicastOptions::from_bits(bits).0))
+        }
+        DataPathCall::ExtendedFlags => {
+            let bits: u16 = words.only_value()?;
+            out.number(b"bits=", Ok(DataPathExtendedFlags::from_bits(bits).0))
+        }
+        DataPathCall::Has => has(words, out),
+        DataPathCall::Write => write(words, buffers, out),
     }
 }

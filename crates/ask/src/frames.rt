@@ -1,86 +1,106 @@
 // The header of a frame, its tail, its stamps and its offsets, and refusals.
-use crate::calls;
-use crate::items::item_at;
-use crate::numbers::{Numbers, Said, byte_at, long_at, none, number_at, one, refused, size_at};
-use crate::output::{Output, named, named_hex, text};
-use crate::words::first;
-use action_frame::{AWDLActionFrame, InFrame, PhyTxTime, ReadFrame, TargetTxTime};
-use wire::{Refusal, Size};
+use crate::buffers::Buffers;
+use crate::output::{Answered, Fault, Output};
+use crate::record::{Pass, Record};
+use crate::words::Words;
+use action_frame::{AWDLActionFrame, PhyTxTime, TargetTxTime};
+use tlvs::Item;
+use wire::Refusal;
 
-// Behind the numbers of the record stands how long the tail is, and then how long the buffer is.
-const TAIL: usize = 4;
+#[derive(Clone, Copy, Debug, PartialEq, Eq, Hash)]
+pub(crate) enum FrameCall {
+    Refusal,
+    Read,
+    TxDelta,
+    Tail,
+    OffsetInFrame,
+    Write,
+}
 
-pub(crate) const ROOM: usize = TAIL + 1;
+// The offset and the channel of a refusal stand behind its name.
+const REFUSALS: [(&str, Refusal); 15] = [
+    ("Short", Refusal::Short(0)),
+    ("NotAction", Refusal::NotAction),
+    ("NotVersion", Refusal::NotVersion),
+    ("UnicastLength", Refusal::UnicastLength),
+    ("Encoding", Refusal::Encoding),
+    ("NoRoom", Refusal::NoRoom),
+    ("Inconsistent", Refusal::Inconsistent),
+    ("TooLong", Refusal::TooLong),
+    ("ChannelCount", Refusal::ChannelCount),
+    ("LegacySequence", Refusal::LegacySequence),
+    ("CorrectedChannel", Refusal::CorrectedChannel),
+    ("TooMany", Refusal::TooMany),
+    ("NonePermitted", Refusal::NonePermitted),
+    ("NotPermitted", Refusal::NotPermitted),
+    ("SmallerLoad", Refusal::SmallerLoad(0)),
+];
 
-fn record_of(v: &[u64; 32]) -> AWDLActionFrame {
-    AWDLActionFrame {
-        subtype: byte_at(v, 0),
-        reserved: byte_at(v, 1),
-        phy_tx_time: PhyTxTime(long_at(v, 2)),
-        target_tx_time: TargetTxTime(long_at(v, 3)),
+impl Record for AWDLActionFrame {
+    fn through<P: Pass>(self, fields: &mut P) -> Result<AWDLActionFrame, Fault> {
+        Ok(AWDLActionFrame {
+            subtype: fields.pass(b"subtype=", self.subtype)?,
+            reserved: fields.pass(b"reserved=", self.reserved)?,
+            phy_tx_time: PhyTxTime(fields.pass(b"phy_tx_time=", self.phy_tx_time.0)?),
+            target_tx_time: TargetTxTime(fields.pass(b"target_tx_time=", self.target_tx_time.0)?),
+        })
     }
 }
 
-fn numbers_of(f: AWDLActionFrame) -> Numbers {
-    let phy = f.phy_tx_time;
-    let target = f.target_tx_time;
-    none()
-        .byte(f.subtype)
-        .byte(f.reserved)
-        .long(phy.0)
-        .long(target.0)
+fn refusal(mut words: Words<'_>, out: &mut Output) -> Answered {
+    let named = words.among(&REFUSALS)?;
+    let offset: usize = words.value()?;
+    let channel: u8 = words.only_value()?;
+    let why = match named {
+        Refusal::Short(_) => Refusal::Short(offset),
+        Refusal::SmallerLoad(_) => Refusal::SmallerLoad(channel),
+        _ => named,
+    };
+    out.number::<u8>(b"channel=", Err(why))
 }
 
-pub(crate) fn write(v: &[u64; 32], given: &[u8], buf: &mut [u8]) -> Size {
-    record_of(v).write(first(given, size_at(v, TAIL)), buf)
+fn tx_delta(mut words: Words<'_>, out: &mut Output) -> Answered {
+    let phy = PhyTxTime(words.value()?);
+    let target = TargetTxTime(words.only_value()?);
+    out.number(b"micros=", Ok(action_frame::tx_delta(phy, target)))
 }
 
-fn read(frame: &[u8]) -> Said {
-    match AWDLActionFrame::read(frame) {
-        ReadFrame::Read(header, size) => one(size as u64).with(numbers_of(header)),
-        ReadFrame::Refused(why) => refused(why),
+fn offset_in_frame(mut words: Words<'_>, buffers: &mut Buffers, out: &mut Output) -> Answered {
+    let frame = words.bytes(&mut buffers.given)?;
+    let item: Item = words.record()?;
+    let offset: usize = words.only_value()?;
+    match AWDLActionFrame::offset_in_frame(frame, item, offset) {
+        Some(place) => out.number(b"in_frame=", Ok(place)),
+        None => out.text(b"0 offset=0 nothing"),
     }
 }
 
-fn tx_delta(phy: u32, target: u32) -> Said {
-    one(action_frame::tx_delta(PhyTxTime(phy), TargetTxTime(target)) as u64)
+fn write(mut words: Words<'_>, buffers: &mut Buffers, out: &mut Output) -> Answered {
+    let header: AWDLActionFrame = words.record()?;
+    let tail = words.bytes(&mut buffers.given)?;
+    let lent = words.only_bytes(&mut buffers.lent)?;
+    let size = header.write(tail, lent);
+    out.wrote(size, lent)
 }
 
-fn refusal_of(n: u64, offset: usize, channel: u8) -> Refusal {
-    match n {
-        0 => Refusal::Short(offset),
-        1 => Refusal::NotAction,
-        2 => Refusal::NotVersion,
-        3 => Refusal::UnicastLength,
-        4 => Refusal::Encoding,
-        5 => Refusal::NoRoom,
-        6 => Refusal::Inconsistent,
-        7 => Refusal::TooLong,
-        8 => Refusal::ChannelCount,
-        9 => Refusal::LegacySequence,
-        10 => Refusal::CorrectedChannel,
-        11 => Refusal::TooMany,
-        12 => Refusal::NonePermitted,
-        13 => Refusal::NotPermitted,
-        _ => Refusal::SmallerLoad(channel),
-    }
-}
-
-pub(crate) fn answer(call: usize, v: &[u64; 32], bytes: &[u8]) -> Said {
+pub(crate) fn answer(
+    call: FrameCall,
+    words: Words<'_>,
+    buffers: &mut Buffers,
+    out: &mut Output,
+) -> Answered {
     match call {
-        calls::REFUSAL => refused(refusal_of(number_at(v, 0), size_at(v, 1), byte_at(v, 2))),
-        calls::FRAME_READ => read(bytes),
-        _ => tx_delta(long_at(v, 0), long_at(v, 1)),
-    }
-}
-
-pub(crate) fn tail(frame: &[u8], out: &mut Output, at: usize) -> usize {
-    named_hex(out, at, b"0 offset=0 tail=", AWDLActionFrame::tail(frame))
-}
-
-pub(crate) fn offset_in_frame(frame: &[u8], v: &[u64; 32], out: &mut Output, at: usize) -> usize {
-    match AWDLActionFrame::offset_in_frame(frame, item_at(v, 1), size_at(v, 4)) {
-        InFrame::At(n) => named(out, at, b"0 offset=0 in_frame=", n as u64),
-        InFrame::Nothing => text(out, at, b"0 offset=0 nothing"),
+        FrameCall::Refusal => refusal(words, out),
+        FrameCall::Read => {
+            let frame = words.only_bytes(&mut buffers.given)?;
+            out.read(b"size=", AWDLActionFrame::read(frame))
+        }
+        FrameCall::TxDelta => tx_delta(words, out),
+        FrameCall::Tail => {
+            let frame = words.only_bytes(&mut buffers.given)?;
+            out.named_hex(b"0 offset=0 tail=", AWDLActionFrame::tail(frame))
+        }
+        FrameCall::OffsetInFrame => offset_in_frame(words, buffers, out),
+        FrameCall::Write => write(words, buffers, out),
     }
 }

@@ -1,61 +1,43 @@
 // Which channel to move to. The permitted channels stand in the lent buffer, so that both lists are bytes.
-use crate::fields::show_said;
-use crate::numbers::{Said, byte_at, one, refused, size_at};
-use crate::output::Output;
-use crate::words::first;
-use channel_judge::{Judgement, Load, Proposal};
+use crate::buffers::Buffers;
+use crate::output::{Answered, Output};
+use crate::words::Words;
 
-fn judged(judgement: Judgement) -> Said {
-    match judgement {
-        Judgement::Accepted => one(0),
-        Judgement::Refused(why) => refused(why),
-    }
+#[derive(Clone, Copy, Debug, PartialEq, Eq, Hash)]
+pub(crate) enum JudgeCall {
+    Judge,
+    OwnProposal,
+    ChannelLoad,
 }
 
-fn proposed(proposal: Proposal) -> Said {
-    match proposal {
-        Proposal::Channel(channel) => one(channel as u64),
-        Proposal::Refused(why) => refused(why),
-    }
+// Beside an acceptance no channel is shown.
+fn judge(mut words: Words<'_>, buffers: &mut Buffers, out: &mut Output) -> Answered {
+    let sequences = words.bytes(&mut buffers.given)?;
+    let permitted = words.bytes(&mut buffers.lent)?;
+    let proposal: u8 = words.only_value()?;
+    let judgement = channel_judge::judge(sequences, permitted, proposal);
+    out.number::<u8>(b"own=", judgement.and(Ok(0)))
 }
 
-fn loaded(load: Load) -> Said {
-    match load {
-        Load::Entries(n) => one(n as u64),
-        Load::Refused(why) => refused(why),
-    }
-}
-
-pub(crate) fn judge(
-    sequences: &[u8],
-    v: &[u64; 32],
-    lent: &[u8],
+pub(crate) fn answer(
+    call: JudgeCall,
+    mut words: Words<'_>,
+    buffers: &mut Buffers,
     out: &mut Output,
-    at: usize,
-) -> usize {
-    let permitted = first(lent, size_at(v, 1));
-    let said = judged(channel_judge::judge(sequences, permitted, byte_at(v, 2)));
-    show_said(out, at, b'O', b'-', said)
-}
-
-pub(crate) fn own_proposal(
-    sequences: &[u8],
-    v: &[u64; 32],
-    lent: &[u8],
-    out: &mut Output,
-    at: usize,
-) -> usize {
-    let permitted = first(lent, size_at(v, 1));
-    let said = proposed(channel_judge::own_proposal(sequences, permitted));
-    show_said(out, at, b'L', b'-', said)
-}
-
-pub(crate) fn channel_load(sequences: &[u8], v: &[u64; 32], out: &mut Output, at: usize) -> usize {
-    show_said(
-        out,
-        at,
-        b'N',
-        b'-',
-        loaded(channel_judge::channel_load(sequences, byte_at(v, 1))),
-    )
+) -> Answered {
+    match call {
+        JudgeCall::Judge => judge(words, buffers, out),
+        JudgeCall::OwnProposal => {
+            let sequences = words.bytes(&mut buffers.given)?;
+            let permitted = words.only_bytes(&mut buffers.lent)?;
+            let proposal = channel_judge::own_proposal(sequences, permitted);
+            out.number(b"channel=", proposal)
+        }
+        JudgeCall::ChannelLoad => {
+            let sequences = words.bytes(&mut buffers.given)?;
+            let channel: u8 = words.only_value()?;
+            let load = channel_judge::channel_load(sequences, channel);
+            out.number(b"load=", load)
+        }
+    }
 }

@@ -1,117 +1,161 @@
 // The lines of a frame's report, one at a time and all of them.
-use crate::fields::{mark_list, show};
-use crate::items::item_at;
-use crate::numbers::{Numbers, none, number_at, size_at};
-use crate::output::{Output, named, named_hex, text};
-use crate::words::first;
-use report::{Line, Mark};
+use crate::buffers::Buffers;
+use crate::output::{Answered, Fault, Output};
+use crate::record::{Pass, Record};
+use crate::value::{Value, among, name_of};
+use crate::words::Words;
+use report::Mark;
+use std::io;
+use std::io::Write;
 use tlvs::Item;
 
-fn mark_of(v: &[u64; 32]) -> Mark {
-    match number_at(v, 1) {
-        0 => Mark::TooLong,
-        1 => Mark::Frame,
-        2 => Mark::Item(size_at(v, 2), size_at(v, 3)),
-        3 => Mark::DataPath(item_at(v, 2), size_at(v, 5), size_at(v, 6)),
-        4 => Mark::Synchronization(item_at(v, 2), size_at(v, 5), size_at(v, 6)),
-        _ => Mark::End,
+#[derive(Clone, Copy, Debug, PartialEq, Eq, Hash)]
+pub(crate) enum LineCall {
+    DumpStart,
+    Lines,
+    Dump,
+    NextLine,
+}
+
+// What a mark's word says of it. The numbers of the mark stand behind the word.
+#[derive(Clone, Copy, Debug, PartialEq, Eq, Hash)]
+enum Kind {
+    TooLong,
+    Frame,
+    Item,
+    DataPath,
+    Synchronization,
+    End,
+}
+
+const KINDS: [(&str, Kind); 6] = [
+    ("too_long", Kind::TooLong),
+    ("frame", Kind::Frame),
+    ("item", Kind::Item),
+    ("data_path", Kind::DataPath),
+    ("synchronization", Kind::Synchronization),
+    ("end", Kind::End),
+];
+
+impl Value for Kind {
+    fn of(word: &[u8]) -> Option<Kind> {
+        among(&KINDS, word)
+    }
+
+    fn show(self, out: &mut Output) -> io::Result<()> {
+        out.write_all(name_of(&KINDS, self))
     }
 }
 
-fn number_of(mark: Mark) -> u64 {
+fn kind_of(mark: Mark) -> Kind {
     match mark {
-        Mark::TooLong => 0,
-        Mark::Frame => 1,
-        Mark::Item(_, _) => 2,
-        Mark::DataPath(_, _, _) => 3,
-        Mark::Synchronization(_, _, _) => 4,
-        Mark::End => 5,
+        Mark::TooLong => Kind::TooLong,
+        Mark::Frame => Kind::Frame,
+        Mark::Item(_, _) => Kind::Item,
+        Mark::DataPath(_, _, _) => Kind::DataPath,
+        Mark::Synchronization(_, _, _) => Kind::Synchronization,
+        Mark::End => Kind::End,
     }
 }
 
-fn record_numbers(item: Item, next: usize, items: usize) -> Numbers {
-    none()
-        .size(item.at)
-        .byte(item.tlv_type)
-        .size(item.length)
-        .size(next)
-        .size(items)
+// The numbers behind a mark that stands in an item's value.
+fn inner<P: Pass>(
+    fields: &mut P,
+    item: Item,
+    next: usize,
+    items: usize,
+) -> Result<(Item, usize, usize), Fault> {
+    let item = item.through(fields)?;
+    let next = fields.pass(b"next=", next)?;
+    let items = fields.pass(b"items=", items)?;
+    Ok((item, next, items))
 }
 
-// The numbers behind the mark's word.
-fn numbers_of(mark: Mark) -> Numbers {
+// The place and the count of a mark, as far as it has them.
+fn numbers_of(mark: Mark) -> (Item, usize, usize) {
     match mark {
-        Mark::Item(place, items) => none().size(place).size(items),
-        Mark::DataPath(item, next, items) => record_numbers(item, next, items),
-        Mark::Synchronization(item, next, items) => record_numbers(item, next, items),
-        _ => none(),
+        Mark::Item(place, items) => (Item::default(), place, items),
+        Mark::DataPath(item, next, items) => (item, next, items),
+        Mark::Synchronization(item, next, items) => (item, next, items),
+        _ => (Item::default(), 0, 0),
     }
 }
 
-fn show_mark(out: &mut Output, at: usize, mark: Mark) -> usize {
-    let number = number_of(mark);
-    let behind_word = show(out, at, b'M', none().and(number));
-    show(out, behind_word, mark_list(number), numbers_of(mark))
-}
-
-pub(crate) fn dump_start(input: &[u8], out: &mut Output, at: usize) -> usize {
-    let behind_why = text(out, at, b"0 offset=0");
-    show_mark(out, behind_why, report::dump_start(input))
-}
-
-fn show_line(line: Line, out: &mut Output, at: usize) -> usize {
-    match line {
-        Line::Text(n, mark) => {
-            let behind_length = named(out, at, b"0 offset=0 line length=", n as u64);
-            show_mark(out, behind_length, mark)
+fn mark<P: Pass>(fields: &mut P, mark: Mark) -> Result<Mark, Fault> {
+    let (item, place, items) = numbers_of(mark);
+    match fields.pass(b"mark=", kind_of(mark))? {
+        Kind::TooLong => Ok(Mark::TooLong),
+        Kind::Frame => Ok(Mark::Frame),
+        Kind::Item => {
+            let place = fields.pass(b"at=", place)?;
+            Ok(Mark::Item(place, fields.pass(b"items=", items)?))
         }
-        Line::Nothing => text(out, at, b"0 offset=0 nothing"),
+        Kind::DataPath => {
+            let (item, next, items) = inner(fields, item, place, items)?;
+            Ok(Mark::DataPath(item, next, items))
+        }
+        Kind::Synchronization => {
+            let (item, next, items) = inner(fields, item, place, items)?;
+            Ok(Mark::Synchronization(item, next, items))
+        }
+        Kind::End => Ok(Mark::End),
     }
 }
 
-fn show_buffer(buf: &[u8; 128], out: &mut Output, at: usize) -> usize {
-    named_hex(out, at, b" buffer=", buf)
+fn dump_start(input: &[u8], out: &mut Output) -> Answered {
+    out.accepted()?;
+    mark(out, report::dump_start(input))?;
+    Ok(())
 }
 
-// The report writes into an array, so that the lent bytes are copied into one first.
-pub(crate) fn next_line(
-    frame: &[u8],
-    v: &[u64; 32],
-    lent: &[u8],
-    out: &mut Output,
-    at: usize,
-) -> usize {
-    let mut buf = [0u8; 128];
-    wire::put_slice(&mut buf, 0, first(lent, 128));
-    let line = report::next_line(frame, mark_of(v), &mut buf);
-    let behind_line = show_line(line, out, at);
-    show_buffer(&buf, out, behind_line)
-}
-
-// A line's text, without the end of the line.
-fn text_of(buf: &[u8; 128], n: usize) -> &[u8] {
-    if 0 < n {
-        return first(buf, n - 1);
+fn next_line(mut words: Words<'_>, buffers: &mut Buffers, out: &mut Output) -> Answered {
+    let frame = words.bytes(&mut buffers.given)?;
+    let start = mark(&mut words, Mark::Frame)?;
+    let mut lent: [u8; 128] = words.only_value()?;
+    match report::next_line(frame, start, &mut lent) {
+        Some((length, next)) => {
+            write!(out, "0 offset=0 line length={length}")?;
+            mark(out, next)?;
+        }
+        None => out.text(b"0 offset=0 nothing")?,
     }
-    first(buf, 0)
+    out.named_hex(b" buffer=", &lent)
 }
 
-fn show_text(buf: &[u8; 128], n: usize, out: &mut Output, at: usize) -> usize {
-    let behind_bar = text(out, at, b" | ");
-    text(out, behind_bar, text_of(buf, n))
+// A line without its end.
+fn without_end(line: &[u8; 128], length: usize) -> &[u8] {
+    line.get(..length.saturating_sub(1)).unwrap_or(line)
 }
 
-pub(crate) fn lines(frame: &[u8], start: Mark, out: &mut Output, at: usize) -> usize {
-    let mut buf = [0u8; 128];
-    let mut behind = text(out, at, b"0 offset=0");
+// Each line behind a bar.
+fn lines(frame: &[u8], start: Mark, out: &mut Output) -> Answered {
+    let mut line = [0u8; 128];
     let mut mark = start;
     let mut count = 0u64;
-    loop {
-        let Line::Text(n, next) = report::next_line(frame, mark, &mut buf) else {
-            return named(out, behind, b" | lines=", count);
-        };
-        behind = show_text(&buf, n, out, behind);
+    out.accepted()?;
+    while let Some((length, next)) = report::next_line(frame, mark, &mut line) {
+        out.text(b" | ")?;
+        out.text(without_end(&line, length))?;
         mark = next;
-        count = std::num::wrapping_add_u64(count, 1);
+        count = count.wrapping_add(1);
+    }
+    write!(out, " | lines={count}")?;
+    Ok(())
+}
+
+pub(crate) fn answer(
+    call: LineCall,
+    words: Words<'_>,
+    buffers: &mut Buffers,
+    out: &mut Output,
+) -> Answered {
+    if let LineCall::NextLine = call {
+        return next_line(words, buffers, out);
+    }
+    let input = words.only_bytes(&mut buffers.given)?;
+    match call {
+        LineCall::DumpStart => dump_start(input, out),
+        LineCall::Lines => lines(input, Mark::Frame, out),
+        _ => lines(input, report::dump_start(input), out),
     }
 }

@@ -1,100 +1,155 @@
-// Answers are gathered in a block, which is written where it is full. A place behind the block's end says that a write failed:
-// whatever is put from then on is dropped.
-ghost use Rattle.std.specs.Prelude.{◌+◌, ◌-◌, ◌≤◌};
+// Answers are gathered in a block, which is written where it is full.
+use crate::record::{Pass, Record};
+use crate::value::Value;
+use arrayvec::ArrayVec;
+use std::io;
+use std::io::{Stdout, Write};
+use wire::Refusal;
 
-use crate::words::between;
-use std::io::Stdout;
+// Why a question has no answer.
+#[derive(Clone, Copy, Debug, PartialEq, Eq, Hash)]
+pub(crate) enum Fault {
+    BadQuestion,
+    Unread,
+    Unwritten,
+}
 
-// The block, and where it is written.
+impl From<io::Error> for Fault {
+    fn from(_error: io::Error) -> Fault {
+        Fault::Unwritten
+    }
+}
+
+pub(crate) type Answered = Result<(), Fault>;
+
 #[derive(Drop)]
 pub(crate) struct Output {
     stdout: Stdout,
-    block: [u8; 65536],
+    block: ArrayVec<u8, 65536>,
+}
+
+impl Write for Output {
+    fn write(&mut self, buf: &[u8]) -> io::Result<usize> {
+        if self.block.is_full() {
+            self.flush()?;
+        }
+        self.block.write(buf)
+    }
+
+    fn flush(&mut self) -> io::Result<()> {
+        self.stdout.write_all(self.block.as_slice())?;
+        self.block.clear();
+        Ok(())
+    }
+}
+
+// A field is shown behind a space and its name.
+impl Pass for Output {
+    fn pass<T: Value>(&mut self, name: &[u8], value: T) -> Result<T, Fault> {
+        self.write_all(b" ")?;
+        self.write_all(name)?;
+        value.show(self)?;
+        Ok(value)
+    }
 }
 
 impl Output {
     pub(crate) fn new(stdout: Stdout) -> Output {
         Output {
             stdout,
-            block: [0; 65536],
+            block: ArrayVec::new(),
         }
     }
-}
 
-const FAILED: usize = 18446744073709551615;
-
-pub(crate) fn has_failed(out: &Output, at: usize) -> bool {
-    out.block.len() < at
-}
-
-pub(crate) fn flush(out: &Output, at: usize) -> usize {
-    if out.block.len() < at {
-        return at;
+    // Bytes in hex, some at a time, and a sign where there are none.
+    pub(crate) fn hex(&mut self, bytes: &[u8]) -> io::Result<()> {
+        if bytes.is_empty() {
+            return self.write_all(b"-");
+        }
+        for some in bytes.chunks(64) {
+            let mut digits = [0u8; 128];
+            let n = text::put_hex(&mut digits, 0, some);
+            self.write_all(digits.get(..n).unwrap_or(&digits))?;
+        }
+        Ok(())
     }
-    if out.stdout.write_all(between(&out.block, 0, at)).is_ok() {
-        return 0;
+
+    pub(crate) fn named_hex(&mut self, name: &[u8], bytes: &[u8]) -> Answered {
+        self.write_all(name)?;
+        self.hex(bytes)?;
+        Ok(())
     }
-    FAILED
-}
 
-// A place with room for n bytes behind it.
-fn room(out: &Output, at: usize, n: usize) -> usize {
-    if out.block.len() < at {
-        return at;
+    pub(crate) fn text(&mut self, words: &[u8]) -> Answered {
+        self.write_all(words)?;
+        Ok(())
     }
-    if out.block.len() - at < n {
-        return flush(out, at);
+
+    // What an answer without a refusal begins with.
+    pub(crate) fn accepted(&mut self) -> Answered {
+        self.text(b"0 offset=0")
     }
-    at
-}
 
-pub(crate) fn text(out: &mut Output, at: usize, words: &[u8]) -> usize {
-    let from = room(out, at, words.len());
-    wire::put_slice(&mut out.block, from, words)
-}
-
-pub(crate) fn number(out: &mut Output, at: usize, n: u64) -> usize {
-    let from = room(out, at, 20);
-    text::put_decimal(&mut out.block, from, n)
-}
-
-pub(crate) fn named(out: &mut Output, at: usize, name: &[u8], n: u64) -> usize {
-    let behind_name = text(out, at, name);
-    number(out, behind_name, n)
-}
-
-fn some_hex(out: &mut Output, at: usize, bytes: &[u8]) -> usize {
-    let from = room(out, at, 16384);
-    text::put_hex(&mut out.block, from, bytes)
-}
-
-// How many of the bytes that are left are shown at a time.
-fn some(left: usize) -> usize
-    ensures upper_bound { result ≤ left }
-    ensures left_bound { left ≤ result + (left - 8192) }
-{
-    if left < 8192 {
-        return left;
+    // What an answer with a refusal begins with: its number and its offset.
+    fn refused(&mut self, why: Refusal) -> Answered {
+        let number = why.number();
+        let offset = why.offset();
+        write!(self, "{number} offset={offset}")?;
+        Ok(())
     }
-    8192
-}
 
-// Bytes in hex, some thousand at a time, so that each part has room.
-pub(crate) fn hex(out: &mut Output, at: usize, bytes: &[u8]) -> usize {
-    if bytes.len() == 0 {
-        return text(out, at, b"-");
+    // The number beside a refusal is the channel that one of them carries.
+    pub(crate) fn number<T: Value>(&mut self, name: &[u8], answer: Result<T, Refusal>) -> Answered {
+        match answer {
+            Ok(number) => {
+                self.accepted()?;
+                self.pass(name, number)?;
+            }
+            Err(why) => {
+                self.refused(why)?;
+                self.pass(name, why.channel())?;
+            }
+        }
+        Ok(())
     }
-    let mut behind = at;
-    let mut i = 0;
-    while i < bytes.len() {
-        let n = some(bytes.len() - i);
-        behind = some_hex(out, behind, between(bytes, i, i + n));
-        i += n;
-    }
-    behind
-}
 
-pub(crate) fn named_hex(out: &mut Output, at: usize, name: &[u8], bytes: &[u8]) -> usize {
-    let behind_name = text(out, at, name);
-    hex(out, behind_name, bytes)
+    // Beside a refusal the zero record is shown.
+    pub(crate) fn record<R: Record>(&mut self, answer: Result<R, Refusal>) -> Answered {
+        match answer {
+            Ok(record) => {
+                self.accepted()?;
+                record.through(self)?;
+            }
+            Err(why) => {
+                self.refused(why)?;
+                R::default().through(self)?;
+            }
+        }
+        Ok(())
+    }
+
+    // What a reader answers: a size or the place behind the record, and the record.
+    pub(crate) fn read<R: Record>(
+        &mut self,
+        name: &[u8],
+        answer: Result<(R, usize), Refusal>,
+    ) -> Answered {
+        match answer {
+            Ok((record, size)) => {
+                self.number(name, Ok(size))?;
+                record.through(self)?;
+            }
+            Err(why) => {
+                self.number::<usize>(name, Err(why))?;
+                R::default().through(self)?;
+            }
+        }
+        Ok(())
+    }
+
+    // What a writer answers, and the buffer behind it.
+    pub(crate) fn wrote(&mut self, size: Result<usize, Refusal>, lent: &[u8]) -> Answered {
+        self.number(b"size=", size)?;
+        self.named_hex(b" buffer=", lent)
+    }
 }

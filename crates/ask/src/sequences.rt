@@ -1,159 +1,149 @@
 // Sequences of sixteen channels, and the record that holds one.
-ghost use Rattle.std.specs.Prelude.{◌≤◌};
-
-use crate::fields::show_said;
-use crate::numbers::{Numbers, Said, byte_at, none, one, placed, refused, size_at, sized, word_at};
-use crate::output::{Output, named_hex, text};
-use crate::words::first;
-use crate::{calls, channels};
-use channel_sequence::{ChannelSequence, Consistency, Entry, MadeSequence, Making};
+use crate::buffers::Buffers;
+use crate::output::{Answered, Fault, Output};
+use crate::record::{Pass, Record};
+use crate::words::Words;
+use channel::Channel;
+use channel_sequence::ChannelSequence;
 use channel_sequence_tlv::ChannelSequenceTLV;
-use wire::Size;
 
-fn sequence_of(encoding: u8, given: &[u8]) -> ChannelSequence {
-    let mut bytes = [0u8; 32];
-    wire::put_slice(&mut bytes, 0, first(given, 32));
-    ChannelSequence { encoding, bytes }
+#[derive(Clone, Copy, Debug, PartialEq, Eq, Hash)]
+pub(crate) enum SequenceCall {
+    Read,
+    Consistent,
+    Size,
+    WrittenSize,
+    Fixed,
+    ToSimple,
+    Entry,
+    Write,
 }
 
-// The record whose numbers stand from a place on: a synchronization record has them at its end.
-pub(crate) fn record_of(v: &[u64; 32], from: usize, given: &[u8]) -> ChannelSequenceTLV
-    requires { from ≤ 28 }
-{
-    ChannelSequenceTLV {
-        duplicate_count: byte_at(v, from),
-        step_count: byte_at(v, from + 1),
-        fill_channel: word_at(v, from + 2),
-        channel_sequence: sequence_of(byte_at(v, from + 3), given),
+// The calls on the record.
+#[derive(Clone, Copy, Debug, PartialEq, Eq, Hash)]
+pub(crate) enum ChannelSequenceCall {
+    Read,
+    Consistent,
+    Size,
+    WrittenSize,
+    Head,
+    Write,
+}
+
+impl Record for ChannelSequence {
+    fn through<P: Pass>(self, fields: &mut P) -> Result<ChannelSequence, Fault> {
+        Ok(ChannelSequence {
+            encoding: fields.pass(b"encoding=", self.encoding)?,
+            bytes: fields.pass(b"bytes=", self.bytes)?,
+        })
     }
 }
 
-impl Numbers {
-    fn sequence(self, s: ChannelSequence) -> Numbers {
-        let bytes = s.bytes;
-        self.byte(s.encoding).bytes(bytes)
-    }
-
-    pub(crate) fn channel_sequence(self, c: ChannelSequenceTLV) -> Numbers {
-        let sequence = c.channel_sequence;
-        self.byte(c.duplicate_count)
-            .byte(c.step_count)
-            .word(c.fill_channel)
-            .sequence(sequence)
+impl Record for ChannelSequenceTLV {
+    fn through<P: Pass>(self, fields: &mut P) -> Result<ChannelSequenceTLV, Fault> {
+        Ok(ChannelSequenceTLV {
+            duplicate_count: fields.pass(b"duplicate_count=", self.duplicate_count)?,
+            step_count: fields.pass(b"step_count=", self.step_count)?,
+            fill_channel: fields.pass(b"fill_channel=", self.fill_channel)?,
+            channel_sequence: self.channel_sequence.through(fields)?,
+        })
     }
 }
 
-pub(crate) fn write(v: &[u64; 32], given: &[u8], buf: &mut [u8]) -> Size {
-    sequence_of(byte_at(v, 0), given).write(buf)
+fn read(mut words: Words<'_>, buffers: &mut Buffers, out: &mut Output) -> Answered {
+    let bytes = words.bytes(&mut buffers.given)?;
+    let at: usize = words.value()?;
+    let encoding: u8 = words.only_value()?;
+    out.read(b"next=", ChannelSequence::read(bytes, at, encoding))
 }
 
-pub(crate) fn write_record(v: &[u64; 32], given: &[u8], buf: &mut [u8]) -> Size {
-    record_of(v, 0, given).write(buf)
-}
-
-// The library answers a sequence and a record beside a refusal too, and these are shown.
-fn read(s: &[u8], v: &[u64; 32]) -> Said {
-    let read = ChannelSequence::read(s, size_at(v, 1), byte_at(v, 2));
-    let answer = read.answer;
-    let sequence = read.sequence;
-    placed(answer).with(none().sequence(sequence))
-}
-
-fn read_record(s: &[u8], v: &[u64; 32]) -> Said {
-    let read = ChannelSequenceTLV::read(s, size_at(v, 1));
-    let answer = read.answer;
-    let channels = read.channels;
-    placed(answer).with(none().channel_sequence(channels))
-}
-
-pub(crate) fn judged(consistency: Consistency) -> Said {
-    match consistency {
-        Consistency::Yes => one(1),
-        Consistency::No => one(0),
-        Consistency::Refused(why) => refused(why),
+fn entry(mut words: Words<'_>, out: &mut Output) -> Answered {
+    let sequence: ChannelSequence = words.record()?;
+    let n: usize = words.only_value()?;
+    match sequence.entry(n) {
+        Ok(Some(channel)) => out.record(Ok(channel)),
+        Ok(None) => out.text(b"0 offset=0 nothing"),
+        Err(why) => out.record::<Channel>(Err(why)),
     }
 }
 
-fn making(answer: Making) -> Said {
-    match answer {
-        Making::Made => one(0),
-        Making::Refused(why) => refused(why),
-    }
+fn write(mut words: Words<'_>, buffers: &mut Buffers, out: &mut Output) -> Answered {
+    let sequence: ChannelSequence = words.record()?;
+    let lent = words.only_bytes(&mut buffers.lent)?;
+    let size = sequence.write(lent);
+    out.wrote(size, lent)
 }
 
-fn made(made: MadeSequence) -> Said {
-    let answer = made.answer;
-    let sequence = made.sequence;
-    making(answer).with(none().sequence(sequence))
-}
-
-fn fixed(v: &[u64; 32]) -> Said {
-    made(ChannelSequence::fixed_channel_sequence(channels::record_of(v)))
-}
-
-fn to_simple(v: &[u64; 32], given: &[u8]) -> Said {
-    made(sequence_of(byte_at(v, 0), given).to_simple())
-}
-
-fn size(v: &[u64; 32], given: &[u8]) -> Said {
-    sized(sequence_of(byte_at(v, 0), given).size())
-}
-
-fn record_size(v: &[u64; 32], given: &[u8]) -> Said {
-    sized(record_of(v, 0, given).size())
-}
-
-fn written_size(v: &[u64; 32], given: &[u8]) -> Said {
-    sized(sequence_of(byte_at(v, 0), given).written_size())
-}
-
-fn record_written_size(v: &[u64; 32], given: &[u8]) -> Said {
-    sized(record_of(v, 0, given).written_size())
-}
-
-fn consistent(v: &[u64; 32], given: &[u8]) -> Said {
-    judged(sequence_of(byte_at(v, 0), given).consistent())
-}
-
-fn record_consistent(v: &[u64; 32], given: &[u8]) -> Said {
-    judged(record_of(v, 0, given).consistent())
-}
-
-pub(crate) fn answer(call: usize, v: &[u64; 32], given: &[u8]) -> Said {
+pub(crate) fn answer(
+    call: SequenceCall,
+    words: Words<'_>,
+    buffers: &mut Buffers,
+    out: &mut Output,
+) -> Answered {
     match call {
-        calls::CHANNEL_SEQUENCE_READ => read_record(first(given, size_at(v, 0)), v),
-        calls::CHANNEL_SEQUENCE_CONSISTENT => record_consistent(v, given),
-        calls::CHANNEL_SEQUENCE_SIZE => record_size(v, given),
-        calls::CHANNEL_SEQUENCE_WRITTEN_SIZE => record_written_size(v, given),
-        calls::SEQUENCE_READ => read(first(given, size_at(v, 0)), v),
-        calls::SEQUENCE_CONSISTENT => consistent(v, given),
-        calls::SEQUENCE_SIZE => size(v, given),
-        calls::SEQUENCE_WRITTEN_SIZE => written_size(v, given),
-        calls::SEQUENCE_TO_SIMPLE => to_simple(v, given),
-        _ => fixed(v),
+        SequenceCall::Read => read(words, buffers, out),
+        SequenceCall::Consistent => {
+            let sequence: ChannelSequence = words.only_record()?;
+            out.number(b"consistent=", sequence.consistent())
+        }
+        SequenceCall::Size => {
+            let sequence: ChannelSequence = words.only_record()?;
+            out.number(b"size=", sequence.size())
+        }
+        SequenceCall::WrittenSize => {
+            let sequence: ChannelSequence = words.only_record()?;
+            out.number(b"size=", sequence.written_size())
+        }
+        SequenceCall::Fixed => {
+            let channel: Channel = words.only_record()?;
+            out.record(ChannelSequence::fixed_channel_sequence(channel))
+        }
+        SequenceCall::ToSimple => {
+            let sequence: ChannelSequence = words.only_record()?;
+            out.record(sequence.to_simple())
+        }
+        SequenceCall::Entry => entry(words, out),
+        SequenceCall::Write => write(words, buffers, out),
     }
 }
 
-pub(crate) fn head(v: &[u64; 32], given: &[u8], out: &mut Output, at: usize) -> usize {
-    let head = record_of(v, 0, given).head();
-    named_hex(out, at, b"0 offset=0 head=", &head)
+fn read_record(mut words: Words<'_>, buffers: &mut Buffers, out: &mut Output) -> Answered {
+    let bytes = words.bytes(&mut buffers.given)?;
+    let at: usize = words.only_value()?;
+    out.read(b"next=", ChannelSequenceTLV::read(bytes, at))
 }
 
-fn show_entry(entry: Entry, out: &mut Output, at: usize) -> usize {
-    match entry {
-        Entry::Channel(channel) => show_said(
-            out,
-            at,
-            b'-',
-            b'C',
-            one(0).with(channels::numbers_of(channel)),
-        ),
-        Entry::Nothing => text(out, at, b"0 offset=0 nothing"),
-        Entry::Refused(why) => show_said(out, at, b'-', b'C', refused(why)),
+fn write_record(mut words: Words<'_>, buffers: &mut Buffers, out: &mut Output) -> Answered {
+    let record: ChannelSequenceTLV = words.record()?;
+    let lent = words.only_bytes(&mut buffers.lent)?;
+    let size = record.write(lent);
+    out.wrote(size, lent)
+}
+
+pub(crate) fn answer_record(
+    call: ChannelSequenceCall,
+    words: Words<'_>,
+    buffers: &mut Buffers,
+    out: &mut Output,
+) -> Answered {
+    match call {
+        ChannelSequenceCall::Read => read_record(words, buffers, out),
+        ChannelSequenceCall::Consistent => {
+            let record: ChannelSequenceTLV = words.only_record()?;
+            out.number(b"consistent=", record.consistent())
+        }
+        ChannelSequenceCall::Size => {
+            let record: ChannelSequenceTLV = words.only_record()?;
+            out.number(b"size=", record.size())
+        }
+        ChannelSequenceCall::WrittenSize => {
+            let record: ChannelSequenceTLV = words.only_record()?;
+            out.number(b"size=", record.written_size())
+        }
+        ChannelSequenceCall::Head => {
+            let record: ChannelSequenceTLV = words.only_record()?;
+            out.named_hex(b"0 offset=0 head=", &record.head())
+        }
+        ChannelSequenceCall::Write => write_record(words, buffers, out),
     }
-}
-
-pub(crate) fn entry(v: &[u64; 32], given: &[u8], out: &mut Output, at: usize) -> usize {
-    let entry = sequence_of(byte_at(v, 0), given).entry(size_at(v, 2));
-    show_entry(entry, out, at)
 }

@@ -1,96 +1,85 @@
 // Synchronization records.
-use crate::fields::address_of;
-use crate::numbers::{Numbers, Said, byte_at, none, number_at, placed, size_at, sized, word_at};
-use crate::words::first;
-use crate::{calls, sequences};
+use crate::buffers::Buffers;
+use crate::output::{Answered, Fault, Output};
+use crate::record::{Pass, Record};
+use crate::words::Words;
 use synchronization_parameters::SynchronizationParametersTLV;
-use wire::Size;
 
-// Behind the numbers of the record's own fields stand the five of its sequence, and then how long the buffer is.
-const CHANNELS: usize = 19;
+#[derive(Clone, Copy, Debug, PartialEq, Eq, Hash)]
+pub(crate) enum SynchronizationCall {
+    Read,
+    Consistent,
+    Size,
+    WrittenSize,
+    Write,
+}
 
-pub(crate) const ROOM: usize = CHANNELS + 5;
-
-fn record_of(v: &[u64; 32], given: &[u8]) -> SynchronizationParametersTLV {
-    SynchronizationParametersTLV {
-        next_channel: byte_at(v, 0),
-        tx_counter: word_at(v, 1),
-        master_channel: byte_at(v, 2),
-        guard_time: byte_at(v, 3),
-        aw_period: word_at(v, 4),
-        af_period: word_at(v, 5),
-        awdl_flags: word_at(v, 6),
-        aw_ext_length: word_at(v, 7),
-        aw_common_length: word_at(v, 8),
-        remaining_aw_length: word_at(v, 9),
-        min_ext_count: byte_at(v, 10),
-        max_multicast_ext_count: byte_at(v, 11),
-        max_unicast_ext_count: byte_at(v, 12),
-        max_af_ext_count: byte_at(v, 13),
-        master_address: address_of(number_at(v, 14)),
-        presence_mode: byte_at(v, 15),
-        reserved: byte_at(v, 16),
-        aw_seq_number: word_at(v, 17),
-        ap_beacon_alignment_delta: word_at(v, 18),
-        channel_sequence: sequences::record_of(v, CHANNELS, given),
+impl Record for SynchronizationParametersTLV {
+    fn through<P: Pass>(self, fields: &mut P) -> Result<SynchronizationParametersTLV, Fault> {
+        Ok(SynchronizationParametersTLV {
+            next_channel: fields.pass(b"next_channel=", self.next_channel)?,
+            tx_counter: fields.pass(b"tx_counter=", self.tx_counter)?,
+            master_channel: fields.pass(b"master_channel=", self.master_channel)?,
+            guard_time: fields.pass(b"guard_time=", self.guard_time)?,
+            aw_period: fields.pass(b"aw_period=", self.aw_period)?,
+            af_period: fields.pass(b"af_period=", self.af_period)?,
+            awdl_flags: fields.pass(b"awdl_flags=", self.awdl_flags)?,
+            aw_ext_length: fields.pass(b"aw_ext_length=", self.aw_ext_length)?,
+            aw_common_length: fields.pass(b"aw_common_length=", self.aw_common_length)?,
+            remaining_aw_length: fields.pass(b"remaining_aw_length=", self.remaining_aw_length)?,
+            min_ext_count: fields.pass(b"min_ext_count=", self.min_ext_count)?,
+            max_multicast_ext_count: fields.pass(
+                b"max_multicast_ext_count=",
+                self.max_multicast_ext_count,
+            )?,
+            max_unicast_ext_count: fields.pass(
+                b"max_unicast_ext_count=",
+                self.max_unicast_ext_count,
+            )?,
+            max_af_ext_count: fields.pass(b"max_af_ext_count=", self.max_af_ext_count)?,
+            master_address: fields.pass(b"master_address=", self.master_address)?,
+            presence_mode: fields.pass(b"presence_mode=", self.presence_mode)?,
+            reserved: fields.pass(b"reserved=", self.reserved)?,
+            aw_seq_number: fields.pass(b"aw_seq_number=", self.aw_seq_number)?,
+            ap_beacon_alignment_delta: fields.pass(
+                b"ap_beacon_alignment_delta=",
+                self.ap_beacon_alignment_delta,
+            )?,
+            channel_sequence: self.channel_sequence.through(fields)?,
+        })
     }
 }
 
-pub(crate) fn numbers_of(p: SynchronizationParametersTLV) -> Numbers {
-    let master_address = p.master_address;
-    let channels = p.channel_sequence;
-    none()
-        .byte(p.next_channel)
-        .word(p.tx_counter)
-        .byte(p.master_channel)
-        .byte(p.guard_time)
-        .word(p.aw_period)
-        .word(p.af_period)
-        .word(p.awdl_flags)
-        .word(p.aw_ext_length)
-        .word(p.aw_common_length)
-        .word(p.remaining_aw_length)
-        .byte(p.min_ext_count)
-        .byte(p.max_multicast_ext_count)
-        .byte(p.max_unicast_ext_count)
-        .byte(p.max_af_ext_count)
-        .address(master_address)
-        .byte(p.presence_mode)
-        .byte(p.reserved)
-        .word(p.aw_seq_number)
-        .word(p.ap_beacon_alignment_delta)
-        .channel_sequence(channels)
+fn write(mut words: Words<'_>, buffers: &mut Buffers, out: &mut Output) -> Answered {
+    let record: SynchronizationParametersTLV = words.record()?;
+    let lent = words.only_bytes(&mut buffers.lent)?;
+    let size = record.write(lent);
+    out.wrote(size, lent)
 }
 
-// The library answers a record beside a refusal too, and that one is shown.
-fn read(value: &[u8]) -> Said {
-    let read = SynchronizationParametersTLV::read(value);
-    let answer = read.answer;
-    let parameters = read.parameters;
-    placed(answer).with(numbers_of(parameters))
-}
-
-fn consistent(v: &[u64; 32], given: &[u8]) -> Said {
-    sequences::judged(record_of(v, given).consistent())
-}
-
-fn size(v: &[u64; 32], given: &[u8]) -> Said {
-    sized(record_of(v, given).size())
-}
-
-fn written_size(v: &[u64; 32], given: &[u8]) -> Said {
-    sized(record_of(v, given).written_size())
-}
-
-pub(crate) fn write(v: &[u64; 32], given: &[u8], buf: &mut [u8]) -> Size {
-    record_of(v, given).write(buf)
-}
-
-pub(crate) fn answer(call: usize, v: &[u64; 32], given: &[u8]) -> Said {
+pub(crate) fn answer(
+    call: SynchronizationCall,
+    words: Words<'_>,
+    buffers: &mut Buffers,
+    out: &mut Output,
+) -> Answered {
     match call {
-        calls::SYNCHRONIZATION_READ => read(first(given, size_at(v, 0))),
-        calls::SYNCHRONIZATION_CONSISTENT => consistent(v, given),
-        calls::SYNCHRONIZATION_WRITTEN_SIZE => written_size(v, given),
-        _ => size(v, given),
+        SynchronizationCall::Read => {
+            let value = words.only_bytes(&mut buffers.given)?;
+            out.read(b"size=", SynchronizationParametersTLV::read(value))
+        }
+        SynchronizationCall::Consistent => {
+            let record: SynchronizationParametersTLV = words.only_record()?;
+            out.number(b"consistent=", record.consistent())
+        }
+        SynchronizationCall::Size => {
+            let record: SynchronizationParametersTLV = words.only_record()?;
+            out.number(b"size=", record.size())
+        }
+        SynchronizationCall::WrittenSize => {
+            let record: SynchronizationParametersTLV = words.only_record()?;
+            out.number(b"size=", record.written_size())
+        }
+        SynchronizationCall::Write => write(words, buffers, out),
     }
 }

@@ -3,5 +3,5 @@
 use Rattle.report.proofs.Ends.{line-nearer}
 use Rattle.ask.proofs.lines.lines.Goals as goal
 
-pub loop-n-smaller : goal.loop-n-smaller
-loop-n-smaller c = line-nearer c.args.frame.now c.loop-n.mark c.next_line.ensures c.in-Text.is
+pub loop-length-smaller : goal.loop-length-smaller
+loop-length-smaller c = line-nearer c.args.frame.now c.loop-length.mark c.next_line.ensures c.in-Some.is

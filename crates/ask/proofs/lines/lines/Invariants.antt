@@ -3,5 +3,5 @@
 use Rattle.report.proofs.Ends.{ahead}
 use Rattle.ask.proofs.lines.lines.Given as goal
 
-abbrev pub decreases-loop-n : goal.decreases-loop-n
-decreases-loop-n l = ahead l.frame l.mark
+abbrev pub decreases-loop-length : goal.decreases-loop-length
+decreases-loop-length l = ahead l.frame l.mark

@@ -1,7 +1,0 @@
--- What is found lies ahead.
--- Assumes nothing.
-use Rattle.std.proofs.Common.{length, ◌-◌}
-use Rattle.ask.proofs.items.all.Given as goal
-
-abbrev pub decreases-loop-next : goal.decreases-loop-next
-decreases-loop-next l = length l.tail - l.place

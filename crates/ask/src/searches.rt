@@ -1,0 +1,110 @@
+// The searches for records of a kind: the first, the next from a place on, the first in a reader that is set to a place, and all.
+use crate::buffers::Buffers;
+use crate::output::{Answered, Output};
+use crate::record::Record;
+use crate::words::Words;
+use channel_sequence_tlv::ChannelSequenceTLV;
+use data_path_state::DataPathStateTLV;
+use std::io::Write;
+use synchronization_parameters::SynchronizationParametersTLV;
+use tlvs::{Found, ReadTLVs};
+
+#[derive(Clone, Copy, Debug, PartialEq, Eq, Hash)]
+pub(crate) enum Search {
+    First,
+    Next,
+    FirstInReader,
+    All,
+}
+
+#[derive(Clone, Copy, Debug, PartialEq, Eq, Hash)]
+pub(crate) enum Sought {
+    DataPath,
+    Synchronization,
+    ChannelSequence,
+}
+
+fn show_found<R: Record>(found: Found<R>, out: &mut Output) -> Answered {
+    let behind = found.behind;
+    out.text(b" found")?;
+    found.item.through(out)?;
+    write!(out, " next={behind}")?;
+    found.record.through(out)?;
+    Ok(())
+}
+
+// Where nothing is found, what stands for it is shown.
+fn show_one<R: Record>(found: Option<Found<R>>, nothing: Option<R>, out: &mut Output) -> Answered {
+    out.accepted()?;
+    if let Some(found) = found {
+        return show_found(found, out);
+    }
+    out.text(b" nothing")?;
+    if let Some(record) = nothing {
+        record.through(out)?;
+    }
+    Ok(())
+}
+
+fn show_all<R: Record + tlvs::Record>(tail: &[u8], out: &mut Output) -> Answered {
+    let mut place = 0;
+    let mut records = 0u64;
+    out.accepted()?;
+    while let Some(found) = R::next(tail, place) {
+        show_found(found, out)?;
+        place = found.behind;
+        records = records.wrapping_add(1);
+    }
+    write!(out, " records={records}")?;
+    Ok(())
+}
+
+fn look<R: Record + tlvs::Record>(
+    search: Search,
+    mut words: Words<'_>,
+    buffers: &mut Buffers,
+    nothing: Option<R>,
+    out: &mut Output,
+) -> Answered {
+    let tail = words.bytes(&mut buffers.given)?;
+    match search {
+        Search::First => {
+            words.end()?;
+            show_one(R::first(tail), nothing, out)
+        }
+        Search::Next => {
+            let place: usize = words.only_value()?;
+            show_one(R::next(tail, place), nothing, out)
+        }
+        Search::FirstInReader => {
+            let place: usize = words.only_value()?;
+            let reader = ReadTLVs::new(tail).go_on(place);
+            show_one(R::first_in(reader), nothing, out)
+        }
+        Search::All => {
+            words.end()?;
+            show_all::<R>(tail, out)
+        }
+    }
+}
+
+// Where nothing is found, a data path search answers no record and the others the zero one.
+pub(crate) fn answer(
+    search: Search,
+    sought: Sought,
+    words: Words<'_>,
+    buffers: &mut Buffers,
+    out: &mut Output,
+) -> Answered {
+    match sought {
+        Sought::DataPath => look::<DataPathStateTLV>(search, words, buffers, None, out),
+        Sought::Synchronization => {
+            let zero = SynchronizationParametersTLV::default();
+            look(search, words, buffers, Some(zero), out)
+        }
+        Sought::ChannelSequence => {
+            let zero = ChannelSequenceTLV::default();
+            look(search, words, buffers, Some(zero), out)
+        }
+    }
+}

@@ -1,0 +1,142 @@
+// Values that a word of a question stands for, and that an answer shows.
+use crate::output::Output;
+use std::io;
+use std::io::Write;
+use wire::MACAddress;
+
+pub(crate) trait Value: Copy {
+    fn of(word: &[u8]) -> Option<Self>;
+
+    fn show(self, out: &mut Output) -> io::Result<()>;
+}
+
+impl Value for u8 {
+    fn of(word: &[u8]) -> Option<u8> {
+        u8::try_from(text::decimal_of(word)?).ok()
+    }
+
+    fn show(self, out: &mut Output) -> io::Result<()> {
+        write!(out, "{self}")
+    }
+}
+
+impl Value for u16 {
+    fn of(word: &[u8]) -> Option<u16> {
+        u16::try_from(text::decimal_of(word)?).ok()
+    }
+
+    fn show(self, out: &mut Output) -> io::Result<()> {
+        write!(out, "{self}")
+    }
+}
+
+impl Value for u32 {
+    fn of(word: &[u8]) -> Option<u32> {
+        u32::try_from(text::decimal_of(word)?).ok()
+    }
+
+    fn show(self, out: &mut Output) -> io::Result<()> {
+        write!(out, "{self}")
+    }
+}
+
+impl Value for usize {
+    fn of(word: &[u8]) -> Option<usize> {
+        usize::try_from(text::decimal_of(word)?).ok()
+    }
+
+    fn show(self, out: &mut Output) -> io::Result<()> {
+        write!(out, "{self}")
+    }
+}
+
+impl Value for bool {
+    fn of(word: &[u8]) -> Option<bool> {
+        match text::decimal_of(word)? {
+            0 => Some(false),
+            1 => Some(true),
+            _ => None,
+        }
+    }
+
+    fn show(self, out: &mut Output) -> io::Result<()> {
+        u8::from(self).show(out)
+    }
+}
+
+impl Value for MACAddress {
+    fn of(word: &[u8]) -> Option<MACAddress> {
+        let mut bytes = [0u8; 6];
+        if word.len() != 12 {
+            return None;
+        }
+        text::hex_into(&mut bytes, 0, word).ok()?;
+        let [a, b, c, d, e, f] = bytes;
+        Some(MACAddress(a, b, c, d, e, f))
+    }
+
+    fn show(self, out: &mut Output) -> io::Result<()> {
+        out.hex(&[self.0, self.1, self.2, self.3, self.4, self.5])
+    }
+}
+
+impl<const N: usize> Value for [u8; N] {
+    fn of(word: &[u8]) -> Option<[u8; N]> {
+        let mut bytes = [0u8; N];
+        let n = put_bytes(word, &mut bytes)?;
+        if n == N { Some(bytes) } else { None }
+    }
+
+    fn show(self, out: &mut Output) -> io::Result<()> {
+        out.hex(&self)
+    }
+}
+
+// Hex digits, or two of them, a star, and how often.
+fn put_part(part: &[u8], buf: &mut [u8], at: usize) -> Option<usize> {
+    match part.split_first_chunk::<3>() {
+        Some(([high, low, b'*'], times)) => {
+            let mut one = [0u8; 1];
+            text::hex_into(&mut one, 0, &[*high, *low]).ok()?;
+            let times = usize::try_from(text::decimal_of(times)?).ok()?;
+            text::repeat_into(buf, at, one[0], times).ok()
+        }
+        _ if part.is_empty() => None,
+        _ => text::hex_into(buf, at, part).ok(),
+    }
+}
+
+// Puts the bytes that a word gives, parts of them with plus signs between, and tells how many there are.
+pub(crate) fn put_bytes(word: &[u8], buf: &mut [u8]) -> Option<usize> {
+    if word == b"-".as_slice() {
+        return Some(0);
+    }
+    let mut n = 0;
+    for part in word.split(|c| *c == b'+') {
+        n = put_part(part, buf, n)?;
+    }
+    Some(n)
+}
+
+// What a word of a table stands for.
+pub(crate) fn among<T: Copy>(table: &[(&'static str, T)], word: &[u8]) -> Option<T> {
+    for (name, value) in table {
+        if name.as_bytes() == word {
+            return Some(*value);
+        }
+    }
+    None
+}
+
+// The word that stands for a value. A value that has none is shown by nothing.
+pub(crate) fn name_of<T: Copy + PartialEq>(
+    table: &[(&'static str, T)],
+    wanted: T,
+) -> &'static [u8] {
+    for (name, value) in table {
+        if *value == wanted {
+            return name.as_bytes();
+        }
+    }
+    b""
+}
