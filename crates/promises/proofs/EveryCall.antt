@@ -2,7 +2,7 @@
 -- Assumes nothing.
 use mathlib.Core.Path.{◌≡◌}
 use Rattle.std.specs.Prelude.{Some}
-use Prim.Native.Nat.{◌+◌, ◌*◌, min}
+use Prim.Native.Nat.{min}
 use lib.ListN.{length, replicate}
 use Rattle.wire.specs.Refusals.{number_of, offset_of, carried_channel}
 use Rattle.wire.specs.Reading.{field}

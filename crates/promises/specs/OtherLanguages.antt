@@ -1,5 +1,5 @@
 -- What is promised of the calls for other languages, over the numbers that are lent to them and laid down by them.
-use Rattle.std.specs.Prelude.{ℕ, zero, suc, ◌<◌, ◌≡◌, true, false, List, [], ◌∷◌, length, get_or, replicate}
+use Rattle.std.specs.Prelude.{ℕ, zero, suc, ◌<◌, ◌≡◌, List, [], ◌∷◌, length, get_or, replicate}
 use Rattle.wire.specs.declared.refusal.Refusal.TheVariants.{Inconsistent}
 use Rattle.wire.specs.Reading.{Reading, refused}
 use Rattle.wire.specs.Answer.{Answer, answer, refusal}
