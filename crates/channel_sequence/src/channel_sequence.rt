@@ -1,10 +1,10 @@
-ghost use Rattle.std.specs.Prelude.{◌≡◌, ◌∷◌, [], ◌*◌, ◌≤◌, ◌<◌, length};
+ghost use Rattle.std.specs.Prelude.{◌≡◌, ◌∷◌, [], ◌*◌, ◌<◌};
 ghost use Rattle.wire.specs.Said.{said, told};
 ghost use Rattle.wire.specs.Writing.{length_of, Wrote};
 ghost use Rattle.channel.specs.Channels.{entry_size};
 ghost use Rattle.channel_sequence.specs.Sequences.{all_zero, all_flags_fit, consistent_bytes, consistent, size_of, bytes_of};
 ghost use Rattle.channel_sequence.specs.Sequences.{padded, times, entry_of, consistent_entry, fixed};
-ghost use Rattle.channel_sequence.specs.SequenceReader.{sequence, kept_entries, kept_bytes};
+ghost use Rattle.channel_sequence.specs.SequenceReader.{sequence, kept_entries};
 ghost use Rattle.channel_sequence.specs.Conversion.{to_simple};
 ghost use Rattle.channel_sequence.specs.Hops.{entry_bytes, entry_channel, hop_at, said_entry};
 
@@ -26,7 +26,11 @@ impl ChannelSequence {
     {
         let known = ChannelEncoding::try_from(encoding)?;
         let next = wire::field_at(s, at, size_in(known))?;
-        let bytes = held(known, &s[at..next]);
+        let mut bytes = [0; 32];
+        wire::put_slice(&mut bytes, 0, &s[at..next]);
+        if known == ChannelEncoding::Legacy {
+            keep_flags(&mut bytes);
+        }
         Ok((ChannelSequence { encoding, bytes }, next))
     }
 
@@ -133,38 +137,13 @@ fn entry_in(known: ChannelEncoding, encoding: u8, bytes: &[u8; 32], n: usize) ->
     }
 }
 
-// The 32 bytes of a sequence from those on the wire.
-fn held(known: ChannelEncoding, part: &[u8]) -> [u8; 32]
-    requires { length part.now ≡ 16 * entry_size known }
-    ensures { result ≡ padded (kept_bytes known part.now) }
+// Entry by entry, the flags lose the bits without a name.
+fn keep_flags(entries: &mut [u8; 32])
+    ensures { entries.new ≡ kept_entries entries.old }
 {
-    match known {
-        ChannelEncoding::Simple | ChannelEncoding::OpClass => copied(part),
-        ChannelEncoding::Legacy => kept_entries(part),
-    }
-}
-
-// Bytes as they stand, and zeros behind them.
-fn copied(part: &[u8]) -> [u8; 32]
-    requires { length part.now ≤ 32 }
-    ensures { result ≡ padded part.now }
-{
-    let mut bytes = [0u8; 32];
-    wire::put_slice(&mut bytes, 0, part);
-    bytes
-}
-
-// Flags and channel, entry by entry: the flags lose the bits without a name.
-fn kept_entries(part: &[u8]) -> [u8; 32]
-    requires { length part.now ≡ 32 }
-    ensures { result ≡ kept_entries part.now }
-{
-    let mut bytes = [0; 32];
     for i in 0..16 {
-        bytes[2 * i] = LegacyFlags::from_bits(part[2 * i]).0;
-        bytes[2 * i + 1] = part[2 * i + 1];
+        entries[2 * i] = LegacyFlags::from_bits(entries[2 * i]).0;
     }
-    bytes
 }
 
 // A simple sequence does not use its last sixteen bytes.
@@ -217,7 +196,9 @@ fn repeated(known: ChannelEncoding, first: u8, second: u8) -> [u8; 32]
 fn singles(channel: u8) -> [u8; 32]
     ensures { result ≡ padded (times 16 (channel ∷ [])) }
 {
-    copied(&[channel; 16])
+    let mut bytes = [0; 32];
+    bytes[..16].fill(channel);
+    bytes
 }
 
 fn pairs(first: u8, second: u8) -> [u8; 32]
