@@ -1,11 +1,10 @@
-ghost use Rattle.std.specs.Prelude.{◌≡◌, ◌||◌, cond};
+ghost use Rattle.std.specs.Prelude.{◌≡◌};
 ghost use Rattle.std.proofs.Common.{rules};
 ghost use Rattle.wire.specs.Said.{said};
-ghost use Rattle.wire.specs.Writing.{Put};
 ghost use Rattle.wire.specs.Addresses.{zero_address};
 ghost use Rattle.data_path_words.specs.Words.{zero_channel, zero_options, zero_extended_flags, zero_stats};
 ghost use Rattle.data_path_fields.specs.Fields.{zero_country, zero_infra};
-ghost use Rattle.data_path_fields.specs.Optional.{none, optional, optional_bytes, mended, absent_zero};
+ghost use Rattle.data_path_fields.specs.Optional.{none, optional};
 
 use crate::fields::{CountryCode, InfraBssidChannel};
 use data_path_words::{DataPathChannel, DataPathExtendedFlags, DataPathStats, UnicastOptions};
@@ -28,7 +27,11 @@ pub trait Field: Wire + Default + PartialEq {
 
 impl<T: Field> Optional<T> {
     // The value where the field is announced, and zero where it is not.
-    pub fn read_at(s: &[u8], at: usize, present: bool) -> Result<(Optional<T>, usize), Refusal>
+    pub(crate) fn read_at(
+        s: &[u8],
+        at: usize,
+        present: bool,
+    ) -> Result<(Optional<T>, usize), Refusal>
         ensures { said result ≡ optional present T.zero T.format s.now at }
     {
         if !present {
@@ -36,34 +39,6 @@ impl<T: Field> Optional<T> {
         }
         let (value, at) = T::read_at(s, at)?;
         Ok((Optional { present, value }, at))
-    }
-
-    // The place behind the bytes, which are none where the field is missing.
-    pub fn put_at(self, buf: &mut [u8], at: usize) -> usize
-        ensures { Put buf.old at (optional_bytes T.bytes self) result buf.new }
-    {
-        if !self.present {
-            return at;
-        }
-        self.value.put_at(buf, at)
-    }
-
-    // A value that is there is left as it is.
-    pub fn mend(self) -> Optional<T>
-        ensures { result ≡ mended T.zero self }
-    {
-        if self.present {
-            self
-        } else {
-            Optional::default()
-        }
-    }
-
-    // Whether the value is zero, unless it is there.
-    pub fn absent_zero(self) -> bool
-        ensures { result ≡ absent_zero (λ x. T.eq x T.zero) self }
-    {
-        self.present | (self.value == T::default())
     }
 }
 

@@ -2,6 +2,7 @@ ghost use Rattle.std.specs.Prelude.{◌≡◌, ◌&&◌};
 ghost use Rattle.data_path_state.specs.Consistent as C;
 
 use crate::data_path_state_tlv::DataPathStateTLV;
+use crate::optional;
 use data_path_words::{
     ChannelMap, DataPathChannel, DataPathExtendedFlags, DataPathFlags, UnicastOptions, has,
 };
@@ -49,17 +50,17 @@ impl DataPathStateTLV {
     pub(crate) fn absent_zero(self) -> bool
         ensures { result ≡ C.absent_zero self }
     {
-        self.country_code.absent_zero()
-            & self.channel_map.absent_zero()
-            & self.infra_bssid_channel.absent_zero()
-            & self.infra_address.absent_zero()
-            & self.awdl_address.absent_zero()
-            & self.unicast_options.absent_zero()
-            & self.unicast_options_ext.absent_zero()
-            & self.extended_flags.absent_zero()
-            & self.rlfc.absent_zero()
-            & self.log_trigger_id.absent_zero()
-            & self.stats.absent_zero()
+        optional::absent_zero(self.country_code)
+            & optional::absent_zero(self.channel_map)
+            & optional::absent_zero(self.infra_bssid_channel)
+            & optional::absent_zero(self.infra_address)
+            & optional::absent_zero(self.awdl_address)
+            & optional::absent_zero(self.unicast_options)
+            & optional::absent_zero(self.unicast_options_ext)
+            & optional::absent_zero(self.extended_flags)
+            & optional::absent_zero(self.rlfc)
+            & optional::absent_zero(self.log_trigger_id)
+            & optional::absent_zero(self.stats)
     }
 }
 

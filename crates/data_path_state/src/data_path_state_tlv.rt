@@ -8,6 +8,7 @@ ghost use Rattle.data_path_state.specs.DataPath as D;
 ghost use Rattle.data_path_state.specs.DataPath.{data_path};
 
 use crate::consistent::channel_right;
+use crate::optional;
 use data_path_fields::{
     Body, CountryCode, Head, InfraBssidChannel, Optional, read_body, read_head,
 };
@@ -66,17 +67,17 @@ impl DataPathStateTLV {
     {
         DataPathStateTLV {
             flags: self.mend_flags(),
-            country_code: self.country_code.mend(),
-            channel_map: self.channel_map.mend(),
-            infra_bssid_channel: self.infra_bssid_channel.mend(),
-            infra_address: self.infra_address.mend(),
-            awdl_address: self.awdl_address.mend(),
+            country_code: optional::mend(self.country_code),
+            channel_map: optional::mend(self.channel_map),
+            infra_bssid_channel: optional::mend(self.infra_bssid_channel),
+            infra_address: optional::mend(self.infra_address),
+            awdl_address: optional::mend(self.awdl_address),
             unicast_options: self.mend_options(),
-            unicast_options_ext: self.unicast_options_ext.mend(),
+            unicast_options_ext: optional::mend(self.unicast_options_ext),
             extended_flags: self.mend_extended(),
-            rlfc: self.rlfc.mend(),
-            log_trigger_id: self.log_trigger_id.mend(),
-            stats: self.stats.mend(),
+            rlfc: optional::mend(self.rlfc),
+            log_trigger_id: optional::mend(self.log_trigger_id),
+            stats: optional::mend(self.stats),
         }
     }
 

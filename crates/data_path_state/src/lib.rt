@@ -4,6 +4,7 @@
 mod consistent;
 mod data_path_state_tlv;
 mod mend;
+mod optional;
 mod write;
 
 pub use data_path_fields::{CountryCode, Field, InfraBssidChannel, Optional};

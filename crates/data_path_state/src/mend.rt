@@ -2,6 +2,7 @@ ghost use Rattle.std.specs.Prelude.{◌≡◌};
 ghost use Rattle.data_path_state.specs.Mended as M;
 
 use crate::data_path_state_tlv::DataPathStateTLV;
+use crate::optional;
 use crate::write::if_there;
 use data_path_fields::Optional;
 use data_path_words::{DataPathExtendedFlags, DataPathFlags, UnicastOptions};
@@ -32,7 +33,7 @@ impl DataPathStateTLV {
     pub(crate) fn mend_options(self) -> Optional<UnicastOptions>
         ensures { result ≡ M.mended_options self }
     {
-        let options = self.unicast_options.mend().value;
+        let options = optional::mend(self.unicast_options).value;
         Optional {
             present: self.has_options(),
             value: UnicastOptions::from_bits(options.0),
@@ -52,7 +53,7 @@ impl DataPathStateTLV {
     pub(crate) fn mend_extended(self) -> Optional<DataPathExtendedFlags>
         ensures { result ≡ M.mended_extended self }
     {
-        let word = self.extended_flags.mend().value.0 & OTHER_EXTENDED;
+        let word = optional::mend(self.extended_flags).value.0 & OTHER_EXTENDED;
         let trigger = if_there(
             self.log_trigger_id.present,
             DataPathExtendedFlags::LOG_TRIGGER_ID_PRESENT,

@@ -3,6 +3,7 @@ ghost use Rattle.wire.specs.Writing.{PutIfRoom};
 ghost use Rattle.data_path_state.specs.Bytes as B;
 
 use crate::data_path_state_tlv::DataPathStateTLV;
+use crate::optional;
 use wire::Wire;
 
 // What a field adds where it is there: to the size its bytes, and to the flags its bit.
@@ -43,16 +44,16 @@ impl DataPathStateTLV {
         ensures { PutIfRoom buf.old at (B.head_bytes self) result buf.new }
     {
         let at = self.flags.0.put_at(buf, at);
-        let at = self.country_code.put_at(buf, at);
-        self.channel_map.put_at(buf, at)
+        let at = optional::put_at(self.country_code, buf, at);
+        optional::put_at(self.channel_map, buf, at)
     }
 
     fn put_addresses(self, buf: &mut [u8], at: usize) -> usize
         ensures { PutIfRoom buf.old at (B.addresses_bytes self) result buf.new }
     {
-        let at = self.infra_bssid_channel.put_at(buf, at);
-        let at = self.infra_address.put_at(buf, at);
-        self.awdl_address.put_at(buf, at)
+        let at = optional::put_at(self.infra_bssid_channel, buf, at);
+        let at = optional::put_at(self.infra_address, buf, at);
+        optional::put_at(self.awdl_address, buf, at)
     }
 
     fn put_unicast(self, buf: &mut [u8], at: usize) -> usize
@@ -63,7 +64,7 @@ impl DataPathStateTLV {
         }
         let at = unicast_length(self.unicast_options_ext.present).put_at(buf, at);
         let at = self.unicast_options.value.put_at(buf, at);
-        self.unicast_options_ext.put_at(buf, at)
+        optional::put_at(self.unicast_options_ext, buf, at)
     }
 
     fn put_extended(self, buf: &mut [u8], at: usize) -> usize
@@ -73,9 +74,9 @@ impl DataPathStateTLV {
             return at;
         }
         let at = self.extended_flags.value.put_at(buf, at);
-        let at = self.log_trigger_id.put_at(buf, at);
-        let at = self.rlfc.put_at(buf, at);
-        self.stats.put_at(buf, at)
+        let at = optional::put_at(self.log_trigger_id, buf, at);
+        let at = optional::put_at(self.rlfc, buf, at);
+        optional::put_at(self.stats, buf, at)
     }
 
     pub(crate) fn put_record(self, buf: &mut [u8]) -> usize
