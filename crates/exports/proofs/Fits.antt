@@ -1,21 +1,25 @@
 -- A test that goes over two lists from the front: what is left of them decides, and each number, each part of a list that fits, fits too.
 -- Assumes nothing.
 use Prim.Native.Nat.{ℕ, zero, suc, ◌+◌, ◌≤◌, ◌<◌}
-use native.Mathlib.Nat.{zero-add}
-use native.Mathlib.Numerals.{add-one}
 use native.Mathlib.Omega.{arith}
-use mathlib.Core.Path.{◌≡◌, refl, sym, ap, ◌∙◌}
-use mathlib.Core.Bool.{Bool, true, false, ◌&&◌, false≢true}
-use mathlib.Core.List.{List, [], ◌∷◌, append-nil}
+use mathlib.Core.Path.{◌≡◌, refl, sym, ◌∙◌}
+use mathlib.Core.Bool.{Bool, true, false, ◌&&◌, false≢true, and_assoc, and-true}
+use mathlib.Core.List.{List, [], ◌∷◌}
 use lib.Dec.{leb}
-use lib.ListN.{length, get_or, set, take, drop, length-drop}
-use lib.Seq.{paste, paste-suc, drop-cons, drop-length, get_or-take, get_or-drop}
+use lib.ListN.{length, get_or, take, drop}
+use lib.Seq.{get_or-take, get_or-drop}
 use borrow.Author.Tests.{leb-true}
+use Rattle.std.specs.List.{fold, zip}
 use Rattle.exports.specs.Held.{fits, octets}
 
-pub fit-step : (ns ms : List ℕ) (i : ℕ) → i < length ns → length ns ≡ length ms
-    → fits (drop i ns) (drop i ms) ≡ leb (get_or ns i 0) (get_or ms i 0) && fits (drop (i + 1) ns) (drop (i + 1) ms)
-fit-step ns ms i h e = rw (drop-cons ns i 0 h, drop-cons ms i 0 (omega arith), add-one i)
+-- a fold over the pairs
+abbrev pub fit_also : Bool → ℕ × ℕ → Bool
+fit_also fit pair = fit && leb pair.0 pair.1
+
+pub fold-fits : (fit : Bool) (ns ms : List ℕ) → length ns ≡ length ms → fold fit_also fit (zip ns ms) ≡ (fit && fits ns ms)
+fold-fits fit [] ms e = sym (and-true fit)
+fold-fits fit (n ∷ ns) [] e = absurd (omega arith)
+fold-fits fit (n ∷ ns) (m ∷ ms) e = fold-fits (fit && leb n m) ns ms (omega arith) ∙ and_assoc fit (leb n m) (fits ns ms)
 
 pub both : (a b : Bool) → a && b ≡ true → (a ≡ true) × (b ≡ true)
 both true b e = (refl, e)
@@ -57,15 +61,5 @@ octet-at at k ns i f h =
     let number : get_or (take k (drop at ns)) i 0 ≡ get_or ns (at + i) 0 = rw (get_or-take k (drop at ns) i 0 h, get_or-drop at ns i 0) in
     omega (arith, rw (number, among k i h) at below)
 
-pub octet-in : (ns : List ℕ) (i : ℕ) → fits ns (octets (length ns)) ≡ true → i < length ns → get_or ns i 0 < 256
-octet-in ns i f h = omega (arith, fits-at ns (octets (length ns)) i f, among (length ns) i h)
-
--- numbers that are taken over one by one, from a place on
-pub taken_step : (z ns : List ℕ) (at i v : ℕ) → i < length z → at + length z ≤ length ns → v ≡ get_or ns (at + i) 0
-    → set (paste z 0 (drop at ns) i) i v ≡ paste z 0 (drop at ns) (i + 1)
-taken_step z ns at i v h room e =
-    let place : set (paste z 0 (drop at ns) i) i v ≡ set (paste z 0 (drop at ns) i) (0 + i) v = ap (λ k. set (paste z 0 (drop at ns) i) k v) (sym (zero-add i)) in
-    place ∙ rw (e, ← get_or-drop at ns i 0, add-one i) (paste-suc z 0 (drop at ns) i 0 (omega arith) (rw (length-drop at ns) (omega arith)))
-
-pub taken-all : (z ns : List ℕ) (at : ℕ) → paste z 0 (drop at ns) (length z) ≡ take (length z) (drop at ns)
-taken-all z ns at = rw (zero-add (length z), drop-length z, append-nil (take (length z) (drop at ns)))
+pub octet_in : (ns : List ℕ) (i : ℕ) → fits ns (octets (length ns)) ≡ true → i < length ns → get_or ns i 0 < 256
+octet_in ns i f h = omega (arith, fits-at ns (octets (length ns)) i f, among (length ns) i h)

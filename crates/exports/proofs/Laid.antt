@@ -1,90 +1,59 @@
--- What the parts of a call say is put together to what it lays down.
+-- How numbers stand behind others, and what a reader tells that laid its record's numbers down.
 -- Assumes nothing.
-use Prim.Native.Nat.{ℕ}
-use native.Mathlib.Nat.{sub-zero}
+use Prim.Native.Nat.{ℕ, ◌≤◌}
 use mathlib.Core.Path.{◌≡◌, refl, sym, ap, ◌∙◌}
-use mathlib.Core.Bool.{Bool, true, false}
-use mathlib.Core.List.{List}
+use mathlib.Core.List.{List, ◌++◌, append-nil}
+use lib.ListN.{length, drop_of_length-le}
+use lib.Seq.{take_at, drop_at}
+use borrow.Rule.Slice.PartMut.{put_mid}
+use Rattle.std.specs.Prelude.{Result, Ok, Err}
 use Rattle.wire.specs.declared.refusal.Refusal.{Refusal}
-use Rattle.wire.specs.declared.refusal.Refusal.TheVariants.{Inconsistent}
-use Rattle.wire.specs.declared.read.Place.{Place}
 use Rattle.wire.specs.Reading.{Reading, read, refused, onward}
-use Rattle.wire.specs.Answer.{Answer, refusal, ◌>>=◌}
-use Rattle.wire.specs.Outcomes.{outcome, result}
-use Rattle.wire.specs.Said.{said_beside}
-use Rattle.wire.specs.Writing.{Wrote}
+use Rattle.wire.specs.Outcomes.{outcome}
 use Rattle.wire.proofs.Lawful.{never}
-use Rattle.wire.proofs.Once.{told}
-use Rattle.tlvs.specs.declared.search.Found.{Found}
-use Rattle.tlvs.specs.Search as S
-use Rattle.exports.specs.Held.{held}
-use Rattle.exports.specs.Told.{ToldOutcome, ToldReading, ToldNumber, ToldWriting, found_record, ToldFound, ToldSearch}
+use Rattle.exports.specs.Laid.{beside}
+use Rattle.exports.specs.Told.{ToldReading}
 
--- an answer by another name
-pub number-told : {a b : Answer ℕ} {n v : ℕ} → a ≡ b → ToldNumber (result 0 a) n v → ToldNumber (result 0 b) n v
-number-told e t = record { number = t.number ∙ ap (λ x. (result 0 x).number) e; value = t.value ∙ ap (λ x. (result 0 x).value) e }
+-- numbers that are laid down behind those of a front, up to the last
+pub put-behind : (front rest ys : List ℕ) {xs : List ℕ} (k n : ℕ) → length front ≡ k → xs ≡ front ++ rest → length rest ≤ n → put_mid k n xs ys ≡ front ++ ys
+put-behind front rest ys k n long e few =
+    rw (e, take_at front rest k long, drop_at front rest k long, drop_of_length-le rest {i = n} few) (ap (λ behind. front ++ behind) (append-nil ys))
 
--- a size that was told is that of what was written
-pub wrote-told : {s : List ℕ} {bytes : Answer (List ℕ)} {said : Answer ℕ} {after : List ℕ} {n size : ℕ} → Wrote s bytes said after
-    → ToldNumber (result 0 said) n size → ToldWriting s bytes n size after
-wrote-told w t = let same = number-told w.size t in record { number = same.number; size = same.value; buffer = w.buffer }
+-- what is read behind those of a front
+pub onto : (front ns : List ℕ) (r : Result ℕ Refusal) {m : Reading (List ℕ)} → beside r ns ≡ m → beside r (front ++ ns) ≡ onward m (λ l p. read (front ++ l) p)
+onto front ns (Ok next) e = rw (← e)
+onto front ns (Err why) e = rw (← e)
 
--- a record is asked where its numbers were found to fit, and nothing is asked where they were not
-module _ {A B : Type 0} {fit : Bool} (a : A) (f : A → Answer B) {test : Bool} (tested : test ≡ fit) where
-  pub held-asked : {b : A} {x : Answer B} → test ≡ true → b ≡ a → x ≡ f b → x ≡ (held fit a >>= f)
-  held-asked passed same e = rw (← tested, passed, ← same) e
+made : {A B : Type 0} (front : List ℕ) (f : A → List ℕ) (h : A → B) (g : B → List ℕ) → ((a : A) → front ++ f a ≡ g (h a)) → (m : Reading A)
+    → onward (onward m (λ a p. read (f a) p)) (λ l p. read (front ++ l) p) ≡ onward (onward m (λ a p. read (h a) p)) (λ b p. read (g b) p)
+made front f h g e (read a p) = ap (λ l. read l p) (e a)
+made front f h g e (refused why) = refl
 
-  pub held-refused : test ≡ false → refusal Inconsistent ≡ (held fit a >>= f)
-  held-refused failed = rw (← tested, failed)
+pub laid-behind : {A B : Type 0} (front : List ℕ) (f : A → List ℕ) (h : A → B) (g : B → List ℕ) → ((a : A) → front ++ f a ≡ g (h a))
+    → (m : Reading A) (r : Result ℕ Refusal) (ns : List ℕ) → beside r ns ≡ onward m (λ a p. read (f a) p)
+    → beside r (front ++ ns) ≡ onward (onward m (λ a p. read (h a) p)) (λ b p. read (g b) p)
+laid-behind front f h g e m r ns laid = onto front ns r laid ∙ made front f h g e m
 
--- and so for what is written
-module _ {A : Type 0} {fit : Bool} (a : A) (f : A → Answer (List ℕ)) {test : Bool} (tested : test ≡ fit) where
-  pub held-wrote : {b : A} {s : List ℕ} {said : Answer ℕ} {after : List ℕ} → test ≡ true → b ≡ a → Wrote s (f b) said after → Wrote s (held fit a >>= f) said after
-  held-wrote passed same w = rw (← tested, passed, ← same) w
+-- a reader whose numbers were laid down, or zeros where it refused
+pub read-told : {A : Type 0} (none : A) (numbers_of : A → List ℕ) (at : ℕ) (m : Reading A) {b : Reading (List ℕ)} {zeros : List ℕ} {n o size : ℕ} {after : List ℕ}
+    → zeros ≡ numbers_of none → b ≡ onward m (λ a p. read (numbers_of a) p) → ToldReading (λ ns. ns) (outcome zeros at b) n o size after
+    → ToldReading numbers_of (outcome none at m) n o size after
+read-told none numbers_of at (read a p) z e t = let u = rw e at t in record { outcome = record { number = u.outcome.number; offset = u.outcome.offset; size = u.outcome.size }; numbers = u.numbers }
+read-told none numbers_of at (refused why) z e t = let u = rw e at t in record { outcome = record { number = u.outcome.number; offset = u.outcome.offset; size = u.outcome.size }; numbers = u.numbers ∙ z }
 
-  pub refused-wrote : (s : List ℕ) → test ≡ false → Wrote s (held fit a >>= f) (refusal Inconsistent) s
-  refused-wrote s failed = rw (← tested, failed) (record { size = refl; buffer = refl })
-
--- a reader that refused has the zero value
-valueless : {A : Type 0} (none : A) (at : ℕ) (m : Reading A) {n o size : ℕ} → ToldOutcome (outcome none at m) n o size → ¬ (n ≡ 0) → (outcome none at m).value ≡ none
-valueless none at (read a next) t not = absurd (not t.number)
-valueless none at (refused why) t not = refl
-
--- a reader whose numbers were laid down, and one that refused: its number is not 0, and zeros were laid down
-module _ {A : Type 0} (none : A) (numbers_of : A → List ℕ) (at : ℕ) (m : Reading A) {n o size : ℕ} {after : List ℕ} (t : ToldOutcome (outcome none at m) n o size) where
-  pub told-read : after ≡ numbers_of (outcome none at m).value → ToldReading numbers_of (outcome none at m) n o size after
-  told-read e = record { outcome = t; numbers = e }
-
-  pub told-refused : ¬ (n ≡ 0) → after ≡ numbers_of none → ToldReading numbers_of (outcome none at m) n o size after
-  told-refused not e = record { outcome = t; numbers = e ∙ ap numbers_of (sym (valueless none at m t not)) }
-
--- what was said of a place and of what stands beside it is what the place's case says
-pub beside-told : {A : Type 0} {place known : Place} {m : Reading A} (a : A) → said_beside place a ≡ m → place ≡ known → m ≡ said_beside known a
-beside-told a e given = told (λ p. said_beside p a) e given
-
--- a record whose numbers were laid down while it was read
-pub laid-told : {A : Type 0} (none : A) (numbers_of : A → List ℕ) (m : Reading A) {ns : List ℕ} {next : ℕ}
-    → read ns next ≡ onward m (λ a p. read (numbers_of a) p) → ToldReading numbers_of (outcome none 0 m) 0 0 next ns
-laid-told none numbers_of (read a p) {ns} {next} e =
-    let place : next ≡ p = cc in
-    record { outcome = record { number = refl; offset = refl; size = place ∙ sym (sub-zero p) }; numbers = cc }
-laid-told none numbers_of (refused why) e = absurd (never (sym e))
-
-pub laid-refused : {A : Type 0} (numbers_of : A → List ℕ) (m : Reading A) {why : Refusal} → refused why ≡ onward m (λ a p. read (numbers_of a) p)
-    → m ≡ refused why
+-- what the answer of such a reader tells of the record's own
+pub laid-refused : {A : Type 0} (numbers_of : A → List ℕ) (m : Reading A) {why : Refusal} → refused why ≡ onward m (λ a p. read (numbers_of a) p) → refused why ≡ m
 laid-refused numbers_of (read a p) e = absurd (never e)
-laid-refused numbers_of (refused other) {why} e = let same : other ≡ why = cc in ap refused same
+laid-refused numbers_of (refused other) e = let same = e in cc
 
--- the two parts that stand side by side in the answer of a search whose record holds an array
-abbrev pub found_said : {A : Type 0} → S.Search A → Found
-found_said (S.found a it next) = Found.At it next
-found_said S.nothing = Found.Nothing
+pub record LaidRead {A : Type 0} (numbers_of : A → List ℕ) (m : Reading A) (ns : List ℕ) (next : ℕ) : Type 0 where
+  pub value : A
+  pub reads : read value next ≡ m
+  pub numbers : ns ≡ numbers_of value
 
-pub search-told : {A : Type 0} (none : A) (numbers_of : A → List ℕ) (m : S.Search A) {found : Found} {value : A} {n : ℕ} {item after : List ℕ}
-    → found ≡ found_said m → value ≡ found_record none m → ToldFound found n item → after ≡ numbers_of value → ToldSearch numbers_of none m n item after
-search-told none numbers_of (S.found a it next) f v t e =
-    let u = rw f at t in
-    record { number = u.number; item = u.item; numbers = e ∙ ap numbers_of v }
-search-told none numbers_of S.nothing f v t e =
-    let u = rw f at t in
-    record { number = u.number; item = u.item; numbers = e ∙ ap numbers_of v }
+pub laid-read : {A : Type 0} (numbers_of : A → List ℕ) (m : Reading A) {ns : List ℕ} {next : ℕ} → read ns next ≡ onward m (λ a p. read (numbers_of a) p)
+    → LaidRead numbers_of m ns next
+laid-read numbers_of (read a p) {next = next} e =
+    let place : p ≡ next = cc in
+    record { value = a; reads = ap (read a) (sym place); numbers = cc }
+laid-read numbers_of (refused why) e = absurd (never (sym e))

@@ -1,8 +1,8 @@
 pub mod Fits
 pub mod Laid
-pub mod Parts
+pub mod Sequences
+pub mod Synchronizations
+pub mod Written
 pub mod DataPathFits
 pub mod Lays
 pub mod DataPathLays
-pub mod Into
-pub mod Written

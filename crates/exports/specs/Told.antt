@@ -1,11 +1,10 @@
 -- What a call lays down of its answer: the number that it answers, and what stands afterwards in the places that were lent to it.
 use Rattle.std.specs.Prelude.{ℕ, ◌+◌, ◌≡◌, List, [], ◌∷◌, length, replicate}
 use Rattle.wire.specs.Answer.{Answer}
-use Rattle.wire.specs.Outcomes.{Outcome, Result, result}
+use Rattle.wire.specs.Outcomes.{Outcome, Reply, reply}
 use Rattle.wire.specs.Writing.{within, length_of, afterwards}
 use Rattle.channel_sequence.specs.Hops.{Hop, hop, nothing, zero_channel}
 use Rattle.tlv_items.specs.declared.item.Step.{Step}
-use Rattle.tlvs.specs.declared.search.Found.{Found}
 use Rattle.tlvs.specs.Search as S
 use Rattle.exports.specs.Sequences.{channel_numbers}
 
@@ -21,25 +20,25 @@ pub record ToldReading {A : Type 0} (numbers_of : A → List ℕ) (o : Outcome A
   pub numbers : after ≡ numbers_of o.value
 
 -- a call that answers one number
-pub record ToldNumber (r : Result ℕ) (answered laid : ℕ) : Type 0 where
+pub record ToldNumber (r : Reply ℕ) (answered laid : ℕ) : Type 0 where
   pub number : answered ≡ r.number
   pub value : laid ≡ r.value
 
 -- one that can be short, too
-pub record ToldPlaced (r : Result ℕ) (answered at laid : ℕ) : Type 0 where
+pub record ToldPlaced (r : Reply ℕ) (answered at laid : ℕ) : Type 0 where
   pub number : answered ≡ r.number
   pub offset : at ≡ r.offset
   pub value : laid ≡ r.value
 
 -- a call that answers a record
-pub record ToldRecord {A : Type 0} (numbers_of : A → List ℕ) (r : Result A) (answered : ℕ) (after : List ℕ) : Type 0 where
+pub record ToldRecord {A : Type 0} (numbers_of : A → List ℕ) (r : Reply A) (answered : ℕ) (after : List ℕ) : Type 0 where
   pub number : answered ≡ r.number
   pub numbers : after ≡ numbers_of r.value
 
 -- a writer: its number and size, and the buffer
 pub record ToldWriting (s : List ℕ) (bytes : Answer (List ℕ)) (answered laid : ℕ) (after : List ℕ) : Type 0 where
-  pub number : answered ≡ (result 0 (within (length s) (length_of bytes))).number
-  pub size : laid ≡ (result 0 (within (length s) (length_of bytes))).value
+  pub number : answered ≡ (reply 0 (within (length s) (length_of bytes))).number
+  pub size : laid ≡ (reply 0 (within (length s) (length_of bytes))).value
   pub buffer : after ≡ afterwards s bytes (within (length s) (length_of bytes))
 
 -- a step of the walk: 1 and the item, with the place of its value and the place behind it; 0 for whole; 2 and the place of the cut
@@ -70,15 +69,6 @@ abbrev pub found_record : {A : Type 0} → A → S.Search A → A
 found_record none (S.found a it next) = a
 found_record none S.nothing = none
 
--- the item and the place that stand beside a record, where there is one
-abbrev pub said_found : Found → S.Search (Unit {0})
-said_found (Found.At it next) = S.found tt it next
-said_found Found.Nothing = S.nothing
-
-pub record ToldFound (f : Found) (answered : ℕ) (lies : List ℕ) : Type 0 where
-  pub number : answered ≡ found_number (said_found f)
-  pub item : lies ≡ found_item (said_found f)
-
 pub record ToldSearch {A : Type 0} (numbers_of : A → List ℕ) (none : A) (s : S.Search A) (answered : ℕ) (lies after : List ℕ) : Type 0 where
   pub number : answered ≡ found_number s
   pub item : lies ≡ found_item s
@@ -93,7 +83,7 @@ abbrev pub hop_numbers : Hop → List ℕ
 hop_numbers (hop c) = channel_numbers c
 hop_numbers nothing = channel_numbers zero_channel
 
-pub record ToldHop (r : Result Hop) (answered there : ℕ) (after : List ℕ) : Type 0 where
+pub record ToldHop (r : Reply Hop) (answered there : ℕ) (after : List ℕ) : Type 0 where
   pub number : answered ≡ r.number
   pub found : there ≡ hop_there r.value
   pub numbers : after ≡ hop_numbers r.value

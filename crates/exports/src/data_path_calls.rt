@@ -1,6 +1,6 @@
 ghost use Rattle.std.specs.Prelude.{◌≡◌};
-ghost use Rattle.wire.specs.Said.{said_size};
-ghost use Rattle.wire.specs.Outcomes.{outcome, result as result_of};
+ghost use Rattle.wire.specs.Said.{told};
+ghost use Rattle.wire.specs.Outcomes.{outcome, reply};
 ghost use Rattle.wire.specs.Writing.{Wrote};
 ghost use Rattle.data_path_state.specs.DataPath.{data_path};
 ghost use Rattle.data_path_state.specs.Outcomes.{zero_data_path};
@@ -8,27 +8,15 @@ ghost use Rattle.exports.specs.DataPaths.{data_path_numbers, data_path_consisten
 ghost use Rattle.exports.specs.Told.{ToldReading, ToldNumber, ToldRecord, ToldWriting};
 
 use crate::data_path_reading::data_path_into;
-use crate::data_path_record::{data_path_fits, data_path_numbers, data_path_of};
-use crate::numbers::flag_number;
-use crate::told::{number_of, tell_size};
-use wire::{Place, Refusal, Size};
+use crate::lent::Lent;
+use crate::told::{tell, tell_read, tell_record};
+use data_path_state::DataPathStateTLV;
+use wire::Refusal;
 
-fn data_path_size(numbers: &[u32; 44]) -> Size
-    ensures { said_size result ≡ data_path_size numbers.now }
+fn write_data_path(numbers: &[u32; 44], buffer: &mut [u8]) -> Result<usize, Refusal>
+    ensures { Wrote buffer.old (data_path_bytes numbers.now) (told result) buffer.new }
 {
-    if data_path_fits(numbers) {
-        return data_path_of(numbers).size();
-    }
-    Size::Refused(Refusal::Inconsistent)
-}
-
-fn data_path_write(numbers: &[u32; 44], buffer: &mut [u8]) -> Size
-    ensures { Wrote buffer.old (data_path_bytes numbers.now) (said_size result) buffer.new }
-{
-    if data_path_fits(numbers) {
-        return data_path_of(numbers).write(buffer);
-    }
-    Size::Refused(Refusal::Inconsistent)
+    DataPathStateTLV::held(numbers)?.write(buffer)
 }
 
 pub fn awdl_data_path_read(
@@ -39,53 +27,34 @@ pub fn awdl_data_path_read(
 ) -> u32
     ensures { ToldReading data_path_numbers (outcome zero_data_path 0 (data_path bytes.now 0)) result offset.new size.new numbers.new }
 {
-    match data_path_into(bytes, numbers) {
-        Place::At(n) => {
-            *offset = 0;
-            *size = n;
-            0
-        }
-        Place::Refused(why) => {
-            *offset = why.offset();
-            *size = 0;
-            *numbers = [0; 44];
-            number_of(why)
-        }
-    }
+    let behind = data_path_into(bytes, numbers);
+    tell_read(behind, 0, offset, size, numbers)
 }
 
 pub fn awdl_data_path_consistent(numbers: &[u32; 44], consistent: &mut u32) -> u32
-    ensures { ToldNumber (result_of 0 (data_path_consistent numbers.now)) result consistent.new }
+    ensures { ToldNumber (reply 0 (data_path_consistent numbers.now)) result consistent.new }
 {
-    if data_path_fits(numbers) {
-        *consistent = flag_number(data_path_of(numbers).consistent());
-        return 0;
-    }
-    *consistent = 0;
-    number_of(Refusal::Inconsistent)
+    let held = DataPathStateTLV::held(numbers);
+    tell(held.map(|d| u32::from(d.consistent())), 0, consistent)
 }
 
 pub fn awdl_data_path_mend(numbers: &[u32; 44], mended: &mut [u32; 44]) -> u32
-    ensures { ToldRecord data_path_numbers (result_of zero_data_path (data_path_mended numbers.now)) result mended.new }
+    ensures { ToldRecord data_path_numbers (reply zero_data_path (data_path_mended numbers.now)) result mended.new }
 {
-    if data_path_fits(numbers) {
-        *mended = data_path_numbers(data_path_of(numbers).mend());
-        return 0;
-    }
-    *mended = [0; 44];
-    number_of(Refusal::Inconsistent)
+    let held = DataPathStateTLV::held(numbers);
+    tell_record(held.map(|d| d.mend()), mended)
 }
 
 pub fn awdl_data_path_size(numbers: &[u32; 44], size: &mut usize) -> u32
-    ensures { ToldNumber (result_of 0 (data_path_size numbers.now)) result size.new }
+    ensures { ToldNumber (reply 0 (data_path_size numbers.now)) result size.new }
 {
-    let answer = data_path_size(numbers);
-    tell_size(answer, size)
+    let held = DataPathStateTLV::held(numbers);
+    tell(held.and_then(|d| d.size()), 0, size)
 }
 
 pub fn awdl_data_path_write(numbers: &[u32; 44], buffer: &mut [u8], size: &mut usize) -> u32
     ensures { ToldWriting buffer.old (data_path_bytes numbers.now) result size.new buffer.new }
 {
-    let wrote = data_path_write(numbers, buffer);
-    tell_size(wrote, size)
+    let wrote = write_data_path(numbers, buffer);
+    tell(wrote, 0, size)
 }

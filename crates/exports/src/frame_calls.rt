@@ -1,51 +1,59 @@
-ghost use Rattle.std.specs.Prelude.{◌≡◌, true};
-ghost use Rattle.wire.specs.Said.{said_size};
+ghost use Rattle.std.specs.Prelude.{◌≡◌, refl};
+ghost use Rattle.wire.specs.Said.{told};
 ghost use Rattle.wire.specs.Outcomes.{outcome};
 ghost use Rattle.wire.specs.Writing.{Wrote};
 ghost use Rattle.action_frame.specs.Frames.{header, zero_frame};
 ghost use Rattle.action_frame.specs.Stamps.{delta};
-ghost use Rattle.exports.specs.Held.{fits};
-ghost use Rattle.exports.specs.Frames.{frame_numbers, frame_largest, frame_of, frame_bytes};
+ghost use Rattle.exports.specs.Frames.{frame_numbers, frame_in, frame_bytes};
+ghost use Rattle.exports.specs.Laid.{beside, numbered};
 ghost use Rattle.exports.specs.Told.{ToldReading, ToldWriting};
 
-use crate::numbers::{all_fit, byte, wide8};
-use crate::told::{number_of, tell_size};
-use action_frame::{AWDLActionFrame, PhyTxTime, ReadFrame, TargetTxTime};
-use wire::{Refusal, Size};
+use crate::lent::{Lent, fit};
+use crate::told::{tell, tell_read};
+use action_frame::{AWDLActionFrame, PhyTxTime, TargetTxTime};
+use wire::Refusal;
 
-fn frame_numbers(f: AWDLActionFrame) -> [u32; 4]
-    ensures { result ≡ frame_numbers f }
-{
-    let phy = f.phy_tx_time;
-    let target = f.target_tx_time;
-    [wide8(f.subtype), wide8(f.reserved), phy.0, target.0]
-}
+impl Lent<4> for AWDLActionFrame {
+    ghost numbers_of = { frame_numbers };
 
-fn frame_fits(numbers: &[u32; 4]) -> bool
-    ensures { result ≡ fits numbers.now frame_largest }
-{
-    all_fit(numbers, &[255, 255, 4294967295, 4294967295])
-}
+    ghost held_in = { frame_in };
 
-fn frame_of(numbers: &[u32; 4]) -> AWDLActionFrame
-    requires { fits numbers.now frame_largest ≡ true }
-    ensures { result ≡ frame_of numbers.now }
-{
-    AWDLActionFrame {
-        subtype: byte(numbers[0]),
-        reserved: byte(numbers[1]),
-        phy_tx_time: PhyTxTime(numbers[2]),
-        target_tx_time: TargetTxTime(numbers[3]),
+    ghost zero = { zero_frame };
+
+    fn to_numbers(self) -> [u32; 4] {
+        [
+            u32::from(self.subtype),
+            u32::from(self.reserved),
+            self.phy_tx_time.0,
+            self.target_tx_time.0,
+        ]
     }
+
+    fn held(numbers: &[u32; 4]) -> Result<AWDLActionFrame, Refusal> {
+        fit(numbers, &[255, 255, u32::MAX, u32::MAX])?;
+        Ok(AWDLActionFrame {
+            subtype: numbers[0] as u8,
+            reserved: numbers[1] as u8,
+            phy_tx_time: PhyTxTime(numbers[2]),
+            target_tx_time: TargetTxTime(numbers[3]),
+        })
+    }
+
+    ghost zeros = { refl };
 }
 
-fn frame_write(numbers: &[u32; 4], tail: &[u8], buffer: &mut [u8]) -> Size
-    ensures { Wrote buffer.old (frame_bytes numbers.now tail.now) (said_size result) buffer.new }
+fn frame_into(bytes: &[u8], numbers: &mut [u32; 4]) -> Result<usize, Refusal>
+    ensures { beside result numbers.new ≡ numbered frame_numbers header bytes.now 0 }
 {
-    if frame_fits(numbers) {
-        return frame_of(numbers).write(tail, buffer);
-    }
-    Size::Refused(Refusal::Inconsistent)
+    let (frame, behind) = AWDLActionFrame::read(bytes)?;
+    *numbers = frame.to_numbers();
+    Ok(behind)
+}
+
+fn write_frame(numbers: &[u32; 4], tail: &[u8], buffer: &mut [u8]) -> Result<usize, Refusal>
+    ensures { Wrote buffer.old (frame_bytes numbers.now tail.now) (told result) buffer.new }
+{
+    AWDLActionFrame::held(numbers)?.write(tail, buffer)
 }
 
 pub fn awdl_frame_read(
@@ -56,27 +64,15 @@ pub fn awdl_frame_read(
 ) -> u32
     ensures { ToldReading frame_numbers (outcome zero_frame 0 (header bytes.now 0)) result offset.new size.new frame.new }
 {
-    match AWDLActionFrame::read(bytes) {
-        ReadFrame::Read(f, behind) => {
-            *offset = 0;
-            *size = behind;
-            *frame = frame_numbers(f);
-            0
-        }
-        ReadFrame::Refused(why) => {
-            *offset = why.offset();
-            *size = 0;
-            *frame = [0; 4];
-            number_of(why)
-        }
-    }
+    let behind = frame_into(bytes, frame);
+    tell_read(behind, 0, offset, size, frame)
 }
 
 pub fn awdl_frame_write(frame: &[u32; 4], tail: &[u8], buffer: &mut [u8], size: &mut usize) -> u32
     ensures { ToldWriting buffer.old (frame_bytes frame.now tail.now) result size.new buffer.new }
 {
-    let wrote = frame_write(frame, tail, buffer);
-    tell_size(wrote, size)
+    let wrote = write_frame(frame, tail, buffer);
+    tell(wrote, 0, size)
 }
 
 pub fn awdl_tx_delta(phy_tx_time: u32, target_tx_time: u32) -> u32

@@ -1,29 +1,27 @@
 ghost use Rattle.std.specs.Prelude.{◌≡◌};
-ghost use Rattle.wire.specs.Said.{said_size};
+ghost use Rattle.wire.specs.Said.{told};
 ghost use Rattle.wire.specs.Writing.{Wrote};
 ghost use Rattle.tlv_items.specs.Items.{step_at};
 ghost use Rattle.exports.specs.Frames.{item_bytes_in};
 ghost use Rattle.exports.specs.Told.{ToldWriting, ToldStep};
 
-use crate::numbers::byte;
-use crate::told::tell_size;
+use crate::lent::held_byte;
+use crate::told::tell;
 use tlv_items::Step;
-use wire::{Refusal, Size};
+use wire::Refusal;
 
-fn write_item(tlv_type: u32, value: &[u8], buffer: &mut [u8]) -> Size
-    ensures { Wrote buffer.old (item_bytes_in tlv_type value.now) (said_size result) buffer.new }
+fn write_item(tlv_type: u32, value: &[u8], buffer: &mut [u8]) -> Result<usize, Refusal>
+    ensures { Wrote buffer.old (item_bytes_in tlv_type value.now) (told result) buffer.new }
 {
-    if tlv_type <= 255 {
-        return tlv_items::write_item(byte(tlv_type), value, buffer);
-    }
-    Size::Refused(Refusal::Inconsistent)
+    let tlv_type = held_byte(tlv_type)?;
+    tlv_items::write_item(tlv_type, value, buffer)
 }
 
 pub fn awdl_write_item(tlv_type: u32, value: &[u8], buffer: &mut [u8], size: &mut usize) -> u32
     ensures { ToldWriting buffer.old (item_bytes_in tlv_type value.now) result size.new buffer.new }
 {
     let wrote = write_item(tlv_type, value, buffer);
-    tell_size(wrote, size)
+    tell(wrote, 0, size)
 }
 
 pub fn awdl_step(tail: &[u8], at: usize, step: &mut [usize; 5]) -> u32
@@ -31,7 +29,13 @@ pub fn awdl_step(tail: &[u8], at: usize, step: &mut [usize; 5]) -> u32
 {
     match tlv_items::step(tail, at) {
         Step::Item(item, next) => {
-            *step = [item.at, wide(item.tlv_type), item.length, at + 3, next];
+            *step = [
+                item.at,
+                usize::from(item.tlv_type),
+                item.length,
+                at + 3,
+                next,
+            ];
             1
         }
         Step::Whole => {
@@ -43,10 +47,4 @@ pub fn awdl_step(tail: &[u8], at: usize, step: &mut [usize; 5]) -> u32
             2
         }
     }
-}
-
-pub(crate) fn wide(x: u8) -> usize
-    ensures { result ≡ x }
-{
-    x as usize
 }

@@ -1,32 +1,19 @@
 ghost use Rattle.std.specs.Prelude.{◌≡◌};
-ghost use Rattle.wire.specs.Outcomes.{result as result_of};
+ghost use Rattle.wire.specs.Said.{told};
+ghost use Rattle.wire.specs.Outcomes.{reply};
 ghost use Rattle.channel_judge.specs.Judging.{proposed};
-ghost use Rattle.channel_judge.specs.Said.{said_judgement, said_load};
-ghost use Rattle.channel_judge.specs.Outcomes.{judged_result};
+ghost use Rattle.channel_judge.specs.Outcomes.{judged_reply};
 ghost use Rattle.exports.specs.Judging.{judged_in, load_of};
 ghost use Rattle.exports.specs.Told.{ToldPlaced};
 
-use crate::numbers::{byte, wide8, wide16};
-use crate::told::number_of;
-use channel_judge::{Judgement, Load, Proposal};
+use crate::lent::held_byte;
+use crate::told::{number_of, tell_placed};
 use wire::Refusal;
 
-fn judge(sequences: &[u8], permitted: &[u8], proposal: u32) -> Judgement
-    ensures { said_judgement result ≡ judged_in sequences.now permitted.now proposal }
+fn judge(sequences: &[u8], permitted: &[u8], proposal: u32) -> Result<(), Refusal>
+    ensures { told result ≡ judged_in sequences.now permitted.now proposal }
 {
-    if proposal <= 255 {
-        return channel_judge::judge(sequences, permitted, byte(proposal));
-    }
-    Judgement::Refused(Refusal::Inconsistent)
-}
-
-fn channel_load(sequences: &[u8], channel: u32) -> Load
-    ensures { said_load result ≡ load_of sequences.now channel }
-{
-    if channel <= 255 {
-        return channel_judge::channel_load(sequences, byte(channel));
-    }
-    Load::Refused(Refusal::Inconsistent)
+    channel_judge::judge(sequences, permitted, held_byte(proposal)?)
 }
 
 pub fn awdl_judge(
@@ -36,17 +23,17 @@ pub fn awdl_judge(
     offset: &mut usize,
     own: &mut u32,
 ) -> u32
-    ensures { ToldPlaced (judged_result (judged_in sequences.now permitted.now proposal)) result offset.new own.new }
+    ensures { ToldPlaced (judged_reply (judged_in sequences.now permitted.now proposal)) result offset.new own.new }
 {
     match judge(sequences, permitted, proposal) {
-        Judgement::Accepted => {
+        Ok(()) => {
             *offset = 0;
             *own = 0;
             0
         }
-        Judgement::Refused(why) => {
+        Err(why) => {
             *offset = why.offset();
-            *own = wide8(why.channel());
+            *own = u32::from(why.channel());
             number_of(why)
         }
     }
@@ -58,35 +45,15 @@ pub fn awdl_own_proposal(
     offset: &mut usize,
     channel: &mut u32,
 ) -> u32
-    ensures { ToldPlaced (result_of 0 (proposed sequences.now permitted.now)) result offset.new channel.new }
+    ensures { ToldPlaced (reply 0 (proposed sequences.now permitted.now)) result offset.new channel.new }
 {
-    match channel_judge::own_proposal(sequences, permitted) {
-        Proposal::Channel(own) => {
-            *offset = 0;
-            *channel = wide8(own);
-            0
-        }
-        Proposal::Refused(why) => {
-            *offset = why.offset();
-            *channel = 0;
-            number_of(why)
-        }
-    }
+    let own = channel_judge::own_proposal(sequences, permitted);
+    tell_placed(own.map(u32::from), offset, channel)
 }
 
 pub fn awdl_channel_load(sequences: &[u8], channel: u32, offset: &mut usize, load: &mut u32) -> u32
-    ensures { ToldPlaced (result_of 0 (load_of sequences.now channel)) result offset.new load.new }
+    ensures { ToldPlaced (reply 0 (load_of sequences.now channel)) result offset.new load.new }
 {
-    match channel_load(sequences, channel) {
-        Load::Entries(n) => {
-            *offset = 0;
-            *load = wide16(n);
-            0
-        }
-        Load::Refused(why) => {
-            *offset = why.offset();
-            *load = 0;
-            number_of(why)
-        }
-    }
+    let counted = held_byte(channel).and_then(|c| channel_judge::channel_load(sequences, c));
+    tell_placed(counted.map(u32::from), offset, load)
 }

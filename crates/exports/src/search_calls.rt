@@ -2,43 +2,50 @@ ghost use Rattle.std.specs.Prelude.{◌≡◌, ◌∷◌, []};
 ghost use Rattle.data_path_state.specs.Outcomes.{zero_data_path};
 ghost use Rattle.synchronization_parameters.specs.SynchronizationReader.{zero_synchronization};
 ghost use Rattle.channel_sequence_tlv.specs.SequenceTLVs.{zero_channel_sequence};
+ghost use Rattle.tlvs.specs.Said.{said_found};
 ghost use Rattle.tlvs.specs.Search.{next_data_path, next_synchronization, next_channel_sequence};
 ghost use Rattle.exports.specs.DataPaths.{data_path_numbers};
 ghost use Rattle.exports.specs.Sequences.{channel_sequence_numbers};
 ghost use Rattle.exports.specs.Synchronizations.{synchronization_numbers};
-ghost use Rattle.exports.specs.Told.{ToldFound, ToldSearch};
+ghost use Rattle.exports.specs.Told.{ToldSearch};
 
-use crate::channel_sequence_calls::channel_sequence_numbers;
 use crate::data_path_reading::data_path_into;
-use crate::item_calls::wide;
-use crate::synchronization_calls::synchronization_numbers;
+use crate::lent::Lent;
+use channel_sequence_tlv::ChannelSequenceTLV;
 use data_path_state::DataPathStateTLV;
-use tlv_items::{Item, Step, step};
-use tlvs::Found;
-use wire::Place;
+use synchronization_parameters::SynchronizationParametersTLV;
+use tlv_items::{Item, Step, step, value};
+use tlvs::{Found, Record};
 
-fn tell_found(found: Found, item: &mut [usize; 4]) -> u32
-    ensures { ToldFound found result item.new }
+fn item_numbers(item: Item, behind: usize) -> [usize; 4]
+    ensures { result ≡ item.at ∷ item.tlv_type ∷ item.length ∷ behind ∷ [] }
+{
+    [item.at, usize::from(item.tlv_type), item.length, behind]
+}
+
+fn tell_found<R: Lent<N>, const N: usize>(
+    found: Option<Found<R>>,
+    item: &mut [usize; 4],
+    numbers: &mut [u32; N],
+) -> u32
+    ensures { ToldSearch R.numbers_of R.zero (said_found found) result item.new numbers.new }
 {
     match found {
-        Found::At(it, next) => {
-            *item = item_numbers(it, next);
+        Some(f) => {
+            *item = item_numbers(f.item, f.behind);
+            *numbers = f.record.to_numbers();
             1
         }
-        Found::Nothing => {
+        None => {
             *item = [0; 4];
+            numbers.fill(0);
             0
         }
     }
 }
 
-fn item_numbers(item: Item, next: usize) -> [usize; 4]
-    ensures { result ≡ item.at ∷ item.tlv_type ∷ item.length ∷ next ∷ [] }
-{
-    [item.at, wide(item.tlv_type), item.length, next]
-}
-
 // The search of `tlvs`, with each value read straight into the numbers.
+#[tactic(auto, using(tlvs::proofs::Searches::turns))]
 pub fn awdl_next_data_path(
     tail: &[u8],
     at: usize,
@@ -48,23 +55,20 @@ pub fn awdl_next_data_path(
     ensures { ToldSearch data_path_numbers zero_data_path (next_data_path tail.now at) result item.new numbers.new }
 {
     let mut place = at;
-    loop {
-        let found = step(tail, place);
-        let Step::Item(it, behind_item) = found else {
-            *item = [0; 4];
-            *numbers = [0; 44];
-            return 0;
-        };
-        place = behind_item;
+    while let Step::Item(it, behind) = step(tail, place) {
+        place = behind;
         if it.tlv_type != DataPathStateTLV::TLV_TYPE {
             continue;
         }
-        let Place::At(_) = data_path_into(tlv_items::value(tail, it), numbers) else {
+        let Ok(_) = data_path_into(value(tail, it), numbers) else {
             continue;
         };
-        *item = item_numbers(it, behind_item);
+        *item = item_numbers(it, behind);
         return 1;
     }
+    *item = [0; 4];
+    *numbers = [0; 44];
+    0
 }
 
 pub fn awdl_first_data_path(tail: &[u8], item: &mut [usize; 4], numbers: &mut [u32; 44]) -> u32
@@ -81,10 +85,8 @@ pub fn awdl_next_synchronization(
 ) -> u32
     ensures { ToldSearch synchronization_numbers zero_synchronization (next_synchronization tail.now at) result item.new numbers.new }
 {
-    let search = tlvs::next_synchronization(tail, at);
-    let found = search.found;
-    *numbers = synchronization_numbers(search.parameters);
-    tell_found(found, item)
+    let found = SynchronizationParametersTLV::next(tail, at);
+    tell_found(found, item, numbers)
 }
 
 pub fn awdl_first_synchronization(
@@ -105,10 +107,8 @@ pub fn awdl_next_channel_sequence(
 ) -> u32
     ensures { ToldSearch channel_sequence_numbers zero_channel_sequence (next_channel_sequence tail.now at) result item.new numbers.new }
 {
-    let search = tlvs::next_channel_sequence(tail, at);
-    let found = search.found;
-    *numbers = channel_sequence_numbers(search.channels);
-    tell_found(found, item)
+    let found = ChannelSequenceTLV::next(tail, at);
+    tell_found(found, item, numbers)
 }
 
 pub fn awdl_first_channel_sequence(

@@ -1,223 +1,185 @@
-ghost use Rattle.std.specs.Prelude.{◌≡◌, true, ◌++◌, ◌+◌, ◌*◌, length, take, drop};
-ghost use Rattle.wire.specs.Said.{said_size};
-ghost use Rattle.wire.specs.Outcomes.{outcome, result as result_of};
-ghost use Rattle.wire.specs.Writing.{length_of};
+ghost use Rattle.std.specs.Prelude.{◌≡◌, refl, true, ◌*◌, length};
+ghost use Rattle.wire.specs.Said.{told};
+ghost use Rattle.wire.specs.Outcomes.{outcome, reply};
+ghost use Rattle.wire.specs.Writing.{length_of, Wrote};
 ghost use Rattle.channel.specs.Channels.{entry_size};
-ghost use Rattle.channel.specs.Said.{said_corrected};
 ghost use Rattle.channel_sequence.specs.Sequences.{zero_sequence, all_zero, padded, bytes_of};
 ghost use Rattle.channel_sequence.specs.SequenceReader.{kept_entries, kept_bytes, sequence};
-ghost use Rattle.channel_sequence.specs.Hops.{nothing};
-ghost use Rattle.channel_sequence.specs.Said.{said_consistent, said_entry, sequence_made};
-ghost use Rattle.exports.specs.Held.{fits, octets, flagged};
-ghost use Rattle.exports.specs.Sequences.{channel_of, corrected_of, sequence_numbers, sequence_of};
+ghost use Rattle.channel_sequence.specs.Hops.{nothing, zero_channel};
+ghost use Rattle.exports.specs.Held.{fits, octets};
+ghost use Rattle.exports.specs.Laid.{beside, numbered};
+ghost use Rattle.exports.specs.Sequences.{channel_numbers, channel_in, corrected_of, sequence_numbers, sequence_of, sequence_in};
 ghost use Rattle.exports.specs.Sequences.{sequence_consistent, sequence_size, sequence_bytes, sequence_entry, sequence_simple, sequence_read_in};
-ghost use Rattle.exports.specs.Told.{ToldOutcome, ToldReading, ToldNumber, ToldRecord, ToldWriting, ToldHop};
+ghost use Rattle.exports.specs.Told.{ToldReading, ToldNumber, ToldRecord, ToldWriting, ToldHop};
 
-use crate::numbers::{all_bytes, all_fit, byte, bytes_from, put_bytes, put_part, wide8};
-use crate::told::{number_of, tell_consistent, tell_refused, tell_size};
-use channel::{Channel, ChannelEncoding, Corrected, FoundEncoding};
-use channel_sequence::{ChannelSequence, Consistency, Entry, MadeSequence, Making};
-use wire::{Place, Refusal, Size};
+use crate::lent::{Lent, fit, held_byte};
+use crate::numbers::{bytes_of, put_bytes, put_part};
+use crate::told::{number_of, tell, tell_flag, tell_read, tell_record};
+use channel::{Channel, ChannelEncoding, LegacyFlags};
+use channel_sequence::ChannelSequence;
+use wire::Refusal;
 
-fn sequence_numbers(q: ChannelSequence) -> [u32; 33]
-    ensures { result ≡ sequence_numbers q }
+impl Lent<3> for Channel {
+    ghost numbers_of = { channel_numbers };
+
+    ghost held_in = { channel_in };
+
+    ghost zero = { zero_channel };
+
+    fn to_numbers(self) -> [u32; 3] {
+        [
+            u32::from(self.encoding),
+            u32::from(self.first),
+            u32::from(self.second),
+        ]
+    }
+
+    fn held(numbers: &[u32; 3]) -> Result<Channel, Refusal> {
+        fit(numbers, &[255; 3])?;
+        Ok(Channel {
+            encoding: numbers[0] as u8,
+            first: numbers[1] as u8,
+            second: numbers[2] as u8,
+        })
+    }
+
+    ghost zeros = { refl };
+}
+
+impl Lent<33> for ChannelSequence {
+    ghost numbers_of = { sequence_numbers };
+
+    ghost held_in = { sequence_in };
+
+    ghost zero = { zero_sequence };
+
+    fn to_numbers(self) -> [u32; 33] {
+        let bytes = self.bytes;
+        let mut numbers = [0; 33];
+        numbers[0] = u32::from(self.encoding);
+        put_bytes(&mut numbers[1..33], &bytes);
+        numbers
+    }
+
+    fn held(numbers: &[u32; 33]) -> Result<ChannelSequence, Refusal> {
+        fit(numbers, &[255; 33])?;
+        Ok(sequence_of(numbers))
+    }
+
+    ghost zeros = { refl };
+}
+
+pub(crate) fn sequence_of(numbers: &[u32]) -> ChannelSequence
+    requires many { length numbers.now ≡ 33 }
+    requires octets_value { fits numbers.now (octets 33) ≡ true }
+    ensures { result ≡ sequence_of numbers.now }
 {
-    let bytes = q.bytes;
-    let mut numbers = [0u32; 33];
-    numbers[0] = wide8(q.encoding);
-    put_bytes(&mut numbers, 1, &bytes);
-    numbers
+    ChannelSequence {
+        encoding: numbers[0] as u8,
+        bytes: bytes_of(&numbers[1..33]),
+    }
 }
 
 // Sixteen bytes as numbers, and sixteen zeros behind them.
-fn put_half(numbers: &mut [u32], at: usize, part: &[u8])
+fn put_half(numbers: &mut [u32], part: &[u8])
     requires part_len { length part.now ≡ 16 }
-    requires at_value { at + 32 ≡ length numbers.old }
-    ensures { numbers.new ≡ take at numbers.old ++ padded part.now }
+    requires many { length numbers.old ≡ 32 }
+    ensures { numbers.new ≡ padded part.now }
 {
-    put_bytes(numbers, at, part);
-    put_bytes(numbers, at + 16, &[0; 16]);
+    put_bytes(&mut numbers[..16], part);
+    put_bytes(&mut numbers[16..32], &[0; 16]);
 }
 
 // Flags and channel, entry by entry: the flags lose the bits without a name.
-fn put_kept(numbers: &mut [u32], at: usize, part: &[u8])
+fn put_kept(numbers: &mut [u32], part: &[u8])
     requires part_len { length part.now ≡ 32 }
-    requires at_value { at + 32 ≡ length numbers.old }
-    ensures { numbers.new ≡ take at numbers.old ++ kept_entries part.now }
+    requires many { length numbers.old ≡ 32 }
+    ensures { numbers.new ≡ kept_entries part.now }
 {
-    let mut i = 0;
-    while i < 32 {
-        numbers[at + i] = wide8(part[i] % 64);
-        numbers[at + i + 1] = wide8(part[i + 1]);
-        i += 2;
+    for i in 0..16 {
+        numbers[2 * i] = u32::from(LegacyFlags::from_bits(part[2 * i]).0);
+        numbers[2 * i + 1] = u32::from(part[2 * i + 1]);
     }
 }
 
 // The bytes of a sequence as numbers, straight from those on the wire: no record stands between.
-fn put_entries(known: ChannelEncoding, numbers: &mut [u32], at: usize, part: &[u8])
+fn put_entries(known: ChannelEncoding, numbers: &mut [u32], part: &[u8])
     requires part_len { length part.now ≡ 16 * entry_size known }
-    requires at_value { at + 32 ≡ length numbers.old }
-    ensures { numbers.new ≡ take at numbers.old ++ padded (kept_bytes known part.now) }
+    requires many { length numbers.old ≡ 32 }
+    ensures { numbers.new ≡ padded (kept_bytes known part.now) }
 {
     match known {
-        ChannelEncoding::Simple => put_half(numbers, at, part),
-        ChannelEncoding::Legacy => put_kept(numbers, at, part),
-        ChannelEncoding::OpClass => put_bytes(numbers, at, part),
+        ChannelEncoding::Simple => put_half(numbers, part),
+        ChannelEncoding::Legacy => put_kept(numbers, part),
+        ChannelEncoding::OpClass => put_bytes(numbers, part),
     }
 }
 
-// Reads a sequence into the last 33 of some numbers. Where it is refused, what stands in these is not said.
+// Reads a sequence into its numbers. Where it is refused, what stands in these is not said.
 pub(crate) fn sequence_into(
-    bytes: &[u8],
+    s: &[u8],
     at: usize,
     encoding: u8,
     numbers: &mut [u32],
-    to: usize,
-    offset: &mut usize,
-    size: &mut usize,
-) -> u32
-    requires { to + 33 ≡ length numbers.old }
-    ensures told { ToldOutcome (outcome zero_sequence at (sequence encoding bytes.now at)) result offset.new size.new }
-    ensures laid { result ≡ 0 → numbers.new ≡ take to numbers.old ++ sequence_numbers (outcome zero_sequence at (sequence encoding bytes.now at)).value }
+) -> Result<usize, Refusal>
+    requires { length numbers.old ≡ 33 }
+    ensures { beside result numbers.new ≡ numbered sequence_numbers (sequence encoding) s.now at }
 {
-    match ChannelEncoding::from_bits(encoding) {
-        FoundEncoding::Known(known) => match wire::field_at(bytes, at, 16 * known.entry_size()) {
-            Place::At(next) => {
-                numbers[to] = wide8(encoding);
-                put_entries(known, numbers, to + 1, &bytes[at..next]);
-                *offset = 0;
-                *size = next - at;
-                0
-            }
-            Place::Refused(why) => tell_refused(why, offset, size),
-        },
-        FoundEncoding::Refused(why) => tell_refused(why, offset, size),
-    }
+    let known = ChannelEncoding::try_from(encoding)?;
+    let next = wire::field_at(s, at, 16 * known.entry_size())?;
+    numbers[0] = u32::from(encoding);
+    put_entries(known, &mut numbers[1..33], &s[at..next]);
+    Ok(next)
 }
 
-fn sequence_fits(numbers: &[u32; 33]) -> bool
-    ensures { result ≡ fits numbers.now (octets 33) }
+fn sequence_read_in(
+    s: &[u8],
+    at: usize,
+    encoding: u32,
+    numbers: &mut [u32; 33],
+) -> Result<usize, Refusal>
+    ensures { beside result numbers.new ≡ numbered sequence_numbers (sequence_read_in encoding) s.now at }
 {
-    all_bytes(numbers)
-}
-
-fn sequence_of(numbers: &[u32; 33]) -> ChannelSequence
-    requires { fits numbers.now (octets 33) ≡ true }
-    ensures { result ≡ sequence_of numbers.now }
-{
-    ChannelSequence {
-        encoding: byte(numbers[0]),
-        bytes: bytes_from(numbers, 1),
-    }
-}
-
-fn sequence_consistent(numbers: &[u32; 33]) -> Consistency
-    ensures { flagged (said_consistent result) ≡ sequence_consistent numbers.now }
-{
-    if sequence_fits(numbers) {
-        return sequence_of(numbers).consistent();
-    }
-    Consistency::Refused(Refusal::Inconsistent)
-}
-
-fn sequence_size(numbers: &[u32; 33]) -> Size
-    ensures { said_size result ≡ sequence_size numbers.now }
-{
-    if sequence_fits(numbers) {
-        return sequence_of(numbers).size();
-    }
-    Size::Refused(Refusal::Inconsistent)
+    let encoding = held_byte(encoding)?;
+    sequence_into(s, at, encoding, numbers)
 }
 
 // Whether a simple sequence leaves its last sixteen bytes 0. Every number is looked at.
 fn no_more(numbers: &[u32]) -> bool
     ensures { result ≡ all_zero numbers.now }
 {
-    let mut none = true;
-    let mut i = 0;
-    while i < numbers.len() {
-        none = none & (numbers[i] == 0);
-        i += 1;
-    }
-    none
+    numbers
+        .iter()
+        .fold(true, |none, number| none & (*number == 0))
 }
 
-// How many bytes are written of the sequence that the last 33 of some numbers are.
-pub(crate) fn entries_told(numbers: &[u32], at: usize, size: &mut usize) -> u32
-    requires { at + 33 ≡ length numbers.now }
-    ensures { ToldNumber (result_of 0 (length_of (bytes_of (sequence_of (drop at numbers.now))))) result size.new }
+// How many bytes are written of a sequence.
+pub(crate) fn written_size(numbers: &[u32]) -> Result<usize, Refusal>
+    requires { length numbers.now ≡ 33 }
+    ensures { told result ≡ length_of (bytes_of (sequence_of numbers.now)) }
 {
-    let encoding = numbers[at];
-    if encoding == 3 {
-        *size = 32;
-        return 0;
-    }
-    *size = 0;
-    if encoding == 0 {
-        if no_more(&numbers[at + 17..]) {
-            *size = 16;
-            return 0;
-        }
-        return number_of(Refusal::Inconsistent);
-    }
-    if encoding == 1 {
-        return number_of(Refusal::LegacySequence);
-    }
-    number_of(Refusal::Encoding)
-}
-
-fn sequence_told(numbers: &[u32; 33], size: &mut usize) -> u32
-    ensures { ToldNumber (result_of 0 (length_of (sequence_bytes numbers.now))) result size.new }
-{
-    if sequence_fits(numbers) {
-        return entries_told(numbers, 0, size);
-    }
-    *size = 0;
-    number_of(Refusal::Inconsistent)
-}
-
-fn sequence_entry(numbers: &[u32; 33], entry: usize) -> Entry
-    ensures { said_entry result ≡ sequence_entry numbers.now entry }
-{
-    if sequence_fits(numbers) {
-        return sequence_of(numbers).entry(entry);
-    }
-    Entry::Refused(Refusal::Inconsistent)
-}
-
-fn sequence_to_simple(numbers: &[u32; 33]) -> MadeSequence
-    ensures { result ≡ sequence_made (sequence_simple numbers.now) }
-{
-    if sequence_fits(numbers) {
-        return sequence_of(numbers).to_simple();
-    }
-    MadeSequence {
-        answer: Making::Refused(Refusal::Inconsistent),
-        sequence: ChannelSequence {
-            encoding: 0,
-            bytes: [0; 32],
-        },
+    match numbers[0] {
+        0 if no_more(&numbers[17..33]) => Ok(16),
+        0 => Err(Refusal::Inconsistent),
+        1 => Err(Refusal::LegacySequence),
+        3 => Ok(32),
+        _ => Err(Refusal::Encoding),
     }
 }
 
-fn channel_of(numbers: &[u32; 3]) -> Channel
-    requires { fits numbers.now (octets 3) ≡ true }
-    ensures { result ≡ channel_of numbers.now }
+fn sequence_told(numbers: &[u32; 33]) -> Result<usize, Refusal>
+    ensures { told result ≡ length_of (sequence_bytes numbers.now) }
 {
-    Channel {
-        encoding: byte(numbers[0]),
-        first: byte(numbers[1]),
-        second: byte(numbers[2]),
-    }
+    fit(numbers, &[255; 33])?;
+    written_size(numbers)
 }
 
-fn corrected(numbers: &[u32; 3]) -> Corrected
-    ensures { said_corrected result ≡ corrected_of numbers.now }
+fn write_sequence(numbers: &[u32; 33], buffer: &mut [u8]) -> Result<usize, Refusal>
+    ensures { Wrote buffer.old (sequence_bytes numbers.now) (told result) buffer.new }
 {
-    if all_fit(numbers, &[255; 3]) {
-        return channel_of(numbers).channel();
-    }
-    Corrected::Refused(Refusal::Inconsistent)
+    let size = wire::within(buffer.len(), sequence_told(numbers))?;
+    put_part(buffer, 0, &numbers[1..1 + size]);
+    Ok(size)
 }
 
 pub fn awdl_sequence_read(
@@ -230,46 +192,29 @@ pub fn awdl_sequence_read(
 ) -> u32
     ensures { ToldReading sequence_numbers (outcome zero_sequence at (sequence_read_in encoding bytes.now at)) result offset.new size.new sequence.new }
 {
-    if encoding <= 255 {
-        let why = sequence_into(bytes, at, byte(encoding), sequence, 0, offset, size);
-        if why != 0 {
-            *sequence = [0; 33];
-        }
-        return why;
-    }
-    *sequence = [0; 33];
-    tell_refused(Refusal::Inconsistent, offset, size)
+    let behind = sequence_read_in(bytes, at, encoding, sequence);
+    tell_read(behind, at, offset, size, sequence)
 }
 
 pub fn awdl_sequence_consistent(sequence: &[u32; 33], consistent: &mut u32) -> u32
-    ensures { ToldNumber (result_of 0 (sequence_consistent sequence.now)) result consistent.new }
+    ensures { ToldNumber (reply 0 (sequence_consistent sequence.now)) result consistent.new }
 {
-    let answer = sequence_consistent(sequence);
-    tell_consistent(answer, consistent)
+    let held = ChannelSequence::held(sequence);
+    tell_flag(held.and_then(|q| q.consistent()), consistent)
 }
 
 pub fn awdl_sequence_size(sequence: &[u32; 33], size: &mut usize) -> u32
-    ensures { ToldNumber (result_of 0 (sequence_size sequence.now)) result size.new }
+    ensures { ToldNumber (reply 0 (sequence_size sequence.now)) result size.new }
 {
-    let answer = sequence_size(sequence);
-    tell_size(answer, size)
+    let held = ChannelSequence::held(sequence);
+    tell(held.and_then(|q| q.size()), 0, size)
 }
 
 pub fn awdl_sequence_write(sequence: &[u32; 33], buffer: &mut [u8], size: &mut usize) -> u32
     ensures { ToldWriting buffer.old (sequence_bytes sequence.now) result size.new buffer.new }
 {
-    let all = &sequence[..];
-    let why = sequence_told(sequence, size);
-    if why != 0 {
-        return why;
-    }
-    let n = *size;
-    if buffer.len() < n {
-        *size = 0;
-        return number_of(Refusal::NoRoom);
-    }
-    put_part(buffer, 0, &all[1..1 + n]);
-    0
+    let wrote = write_sequence(sequence, buffer);
+    tell(wrote, 0, size)
 }
 
 pub fn awdl_sequence_entry(
@@ -278,50 +223,32 @@ pub fn awdl_sequence_entry(
     found: &mut u32,
     channel: &mut [u32; 3],
 ) -> u32
-    ensures { ToldHop (result_of nothing (sequence_entry sequence.now entry)) result found.new channel.new }
+    ensures { ToldHop (reply nothing (sequence_entry sequence.now entry)) result found.new channel.new }
 {
-    match sequence_entry(sequence, entry) {
-        Entry::Channel(c) => {
+    *found = 0;
+    *channel = [0; 3];
+    let held = ChannelSequence::held(sequence);
+    match held.and_then(|q| q.entry(entry)) {
+        Ok(Some(hop)) => {
             *found = 1;
-            *channel = [wide8(c.encoding), wide8(c.first), wide8(c.second)];
+            *channel = hop.to_numbers();
             0
         }
-        Entry::Nothing => {
-            *found = 0;
-            *channel = [0; 3];
-            0
-        }
-        Entry::Refused(why) => {
-            *found = 0;
-            *channel = [0; 3];
-            number_of(why)
-        }
+        Ok(None) => 0,
+        Err(why) => number_of(why),
     }
 }
 
 pub fn awdl_sequence_to_simple(sequence: &[u32; 33], simple: &mut [u32; 33]) -> u32
-    ensures { ToldRecord sequence_numbers (result_of zero_sequence (sequence_simple sequence.now)) result simple.new }
+    ensures { ToldRecord sequence_numbers (reply zero_sequence (sequence_simple sequence.now)) result simple.new }
 {
-    let made = sequence_to_simple(sequence);
-    let answer = made.answer;
-    *simple = sequence_numbers(made.sequence);
-    match answer {
-        Making::Made => 0,
-        Making::Refused(why) => number_of(why),
-    }
+    let held = ChannelSequence::held(sequence);
+    tell_record(held.and_then(|q| q.to_simple()), simple)
 }
 
 pub fn awdl_channel(channel: &[u32; 3], answer: &mut u32) -> u32
-    ensures { ToldNumber (result_of 0 (corrected_of channel.now)) result answer.new }
+    ensures { ToldNumber (reply 0 (corrected_of channel.now)) result answer.new }
 {
-    match corrected(channel) {
-        Corrected::Channel(c) => {
-            *answer = wide8(c);
-            0
-        }
-        Corrected::Refused(why) => {
-            *answer = 0;
-            number_of(why)
-        }
-    }
+    let corrected = Channel::held(channel).and_then(|c| c.channel());
+    tell(corrected.map(u32::from), 0, answer)
 }

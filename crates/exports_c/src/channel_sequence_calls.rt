@@ -1,4 +1,4 @@
-ghost use Rattle.wire.specs.Outcomes.{outcome, result as result_of};
+ghost use Rattle.wire.specs.Outcomes.{outcome, reply};
 ghost use Rattle.channel_sequence_tlv.specs.SequenceTLVs.{zero_channel_sequence};
 ghost use Rattle.channel_sequence_tlv.specs.SequenceTLVReader.{channel_sequence_record};
 ghost use Rattle.exports.specs.Sequences.{channel_sequence_numbers};
@@ -20,14 +20,14 @@ pub extern "C" fn awdl_channel_sequence_read(
 
 #[unsafe(no_mangle)]
 pub extern "C" fn awdl_channel_sequence_consistent(numbers: &[u32; 36], consistent: &mut u32) -> u32
-    ensures { ToldNumber (result_of 0 (channel_sequence_consistent numbers.now)) result consistent.new }
+    ensures { ToldNumber (reply 0 (channel_sequence_consistent numbers.now)) result consistent.new }
 {
     exports::awdl_channel_sequence_consistent(numbers, consistent)
 }
 
 #[unsafe(no_mangle)]
 pub extern "C" fn awdl_channel_sequence_size(numbers: &[u32; 36], size: &mut usize) -> u32
-    ensures { ToldNumber (result_of 0 (channel_sequence_size numbers.now)) result size.new }
+    ensures { ToldNumber (reply 0 (channel_sequence_size numbers.now)) result size.new }
 {
     exports::awdl_channel_sequence_size(numbers, size)
 }

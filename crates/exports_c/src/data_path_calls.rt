@@ -1,4 +1,4 @@
-ghost use Rattle.wire.specs.Outcomes.{outcome, result as result_of};
+ghost use Rattle.wire.specs.Outcomes.{outcome, reply};
 ghost use Rattle.data_path_state.specs.DataPath.{data_path};
 ghost use Rattle.data_path_state.specs.Outcomes.{zero_data_path};
 ghost use Rattle.exports.specs.DataPaths.{data_path_numbers, data_path_consistent, data_path_mended, data_path_size, data_path_bytes};
@@ -18,21 +18,21 @@ pub extern "C" fn awdl_data_path_read(
 
 #[unsafe(no_mangle)]
 pub extern "C" fn awdl_data_path_consistent(numbers: &[u32; 44], consistent: &mut u32) -> u32
-    ensures { ToldNumber (result_of 0 (data_path_consistent numbers.now)) result consistent.new }
+    ensures { ToldNumber (reply 0 (data_path_consistent numbers.now)) result consistent.new }
 {
     exports::awdl_data_path_consistent(numbers, consistent)
 }
 
 #[unsafe(no_mangle)]
 pub extern "C" fn awdl_data_path_mend(numbers: &[u32; 44], mended: &mut [u32; 44]) -> u32
-    ensures { ToldRecord data_path_numbers (result_of zero_data_path (data_path_mended numbers.now)) result mended.new }
+    ensures { ToldRecord data_path_numbers (reply zero_data_path (data_path_mended numbers.now)) result mended.new }
 {
     exports::awdl_data_path_mend(numbers, mended)
 }
 
 #[unsafe(no_mangle)]
 pub extern "C" fn awdl_data_path_size(numbers: &[u32; 44], size: &mut usize) -> u32
-    ensures { ToldNumber (result_of 0 (data_path_size numbers.now)) result size.new }
+    ensures { ToldNumber (reply 0 (data_path_size numbers.now)) result size.new }
 {
     exports::awdl_data_path_size(numbers, size)
 }

@@ -1,6 +1,6 @@
-ghost use Rattle.wire.specs.Outcomes.{result as result_of};
+ghost use Rattle.wire.specs.Outcomes.{reply};
 ghost use Rattle.channel_judge.specs.Judging.{proposed};
-ghost use Rattle.channel_judge.specs.Outcomes.{judged_result};
+ghost use Rattle.channel_judge.specs.Outcomes.{judged_reply};
 ghost use Rattle.exports.specs.Judging.{judged_in, load_of};
 ghost use Rattle.exports.specs.Told.{ToldPlaced};
 
@@ -12,7 +12,7 @@ pub extern "C" fn awdl_judge(
     offset: &mut usize,
     own: &mut u32,
 ) -> u32
-    ensures { ToldPlaced (judged_result (judged_in sequences.now permitted.now proposal)) result offset.new own.new }
+    ensures { ToldPlaced (judged_reply (judged_in sequences.now permitted.now proposal)) result offset.new own.new }
 {
     exports::awdl_judge(sequences, permitted, proposal, offset, own)
 }
@@ -24,7 +24,7 @@ pub extern "C" fn awdl_own_proposal(
     offset: &mut usize,
     channel: &mut u32,
 ) -> u32
-    ensures { ToldPlaced (result_of 0 (proposed sequences.now permitted.now)) result offset.new channel.new }
+    ensures { ToldPlaced (reply 0 (proposed sequences.now permitted.now)) result offset.new channel.new }
 {
     exports::awdl_own_proposal(sequences, permitted, offset, channel)
 }
@@ -36,7 +36,7 @@ pub extern "C" fn awdl_channel_load(
     offset: &mut usize,
     load: &mut u32,
 ) -> u32
-    ensures { ToldPlaced (result_of 0 (load_of sequences.now channel)) result offset.new load.new }
+    ensures { ToldPlaced (reply 0 (load_of sequences.now channel)) result offset.new load.new }
 {
     exports::awdl_channel_load(sequences, channel, offset, load)
 }

@@ -1,4 +1,4 @@
-ghost use Rattle.wire.specs.Outcomes.{outcome, result as result_of};
+ghost use Rattle.wire.specs.Outcomes.{outcome, reply};
 ghost use Rattle.channel_sequence.specs.Sequences.{zero_sequence};
 ghost use Rattle.channel_sequence.specs.SequenceReader.{sequence};
 ghost use Rattle.channel_sequence.specs.Hops.{nothing};
@@ -22,14 +22,14 @@ pub extern "C" fn awdl_sequence_read(
 
 #[unsafe(no_mangle)]
 pub extern "C" fn awdl_sequence_consistent(sequence: &[u32; 33], consistent: &mut u32) -> u32
-    ensures { ToldNumber (result_of 0 (sequence_consistent sequence.now)) result consistent.new }
+    ensures { ToldNumber (reply 0 (sequence_consistent sequence.now)) result consistent.new }
 {
     exports::awdl_sequence_consistent(sequence, consistent)
 }
 
 #[unsafe(no_mangle)]
 pub extern "C" fn awdl_sequence_size(sequence: &[u32; 33], size: &mut usize) -> u32
-    ensures { ToldNumber (result_of 0 (sequence_size sequence.now)) result size.new }
+    ensures { ToldNumber (reply 0 (sequence_size sequence.now)) result size.new }
 {
     exports::awdl_sequence_size(sequence, size)
 }
@@ -52,21 +52,21 @@ pub extern "C" fn awdl_sequence_entry(
     found: &mut u32,
     channel: &mut [u32; 3],
 ) -> u32
-    ensures { ToldHop (result_of nothing (sequence_entry sequence.now entry)) result found.new channel.new }
+    ensures { ToldHop (reply nothing (sequence_entry sequence.now entry)) result found.new channel.new }
 {
     exports::awdl_sequence_entry(sequence, entry, found, channel)
 }
 
 #[unsafe(no_mangle)]
 pub extern "C" fn awdl_sequence_to_simple(sequence: &[u32; 33], simple: &mut [u32; 33]) -> u32
-    ensures { ToldRecord sequence_numbers (result_of zero_sequence (sequence_simple sequence.now)) result simple.new }
+    ensures { ToldRecord sequence_numbers (reply zero_sequence (sequence_simple sequence.now)) result simple.new }
 {
     exports::awdl_sequence_to_simple(sequence, simple)
 }
 
 #[unsafe(no_mangle)]
 pub extern "C" fn awdl_channel(channel: &[u32; 3], answer: &mut u32) -> u32
-    ensures { ToldNumber (result_of 0 (corrected_of channel.now)) result answer.new }
+    ensures { ToldNumber (reply 0 (corrected_of channel.now)) result answer.new }
 {
     exports::awdl_channel(channel, answer)
 }

@@ -1,4 +1,4 @@
-ghost use Rattle.wire.specs.Outcomes.{outcome, result as result_of};
+ghost use Rattle.wire.specs.Outcomes.{outcome, reply};
 ghost use Rattle.synchronization_parameters.specs.SynchronizationReader.{synchronization, zero_synchronization};
 ghost use Rattle.exports.specs.Synchronizations.{synchronization_numbers};
 ghost use Rattle.exports.specs.Synchronizations.{synchronization_consistent, synchronization_size, synchronization_bytes};
@@ -18,14 +18,14 @@ pub extern "C" fn awdl_synchronization_read(
 
 #[unsafe(no_mangle)]
 pub extern "C" fn awdl_synchronization_consistent(numbers: &[u32; 60], consistent: &mut u32) -> u32
-    ensures { ToldNumber (result_of 0 (synchronization_consistent numbers.now)) result consistent.new }
+    ensures { ToldNumber (reply 0 (synchronization_consistent numbers.now)) result consistent.new }
 {
     exports::awdl_synchronization_consistent(numbers, consistent)
 }
 
 #[unsafe(no_mangle)]
 pub extern "C" fn awdl_synchronization_size(numbers: &[u32; 60], size: &mut usize) -> u32
-    ensures { ToldNumber (result_of 0 (synchronization_size numbers.now)) result size.new }
+    ensures { ToldNumber (reply 0 (synchronization_size numbers.now)) result size.new }
 {
     exports::awdl_synchronization_size(numbers, size)
 }

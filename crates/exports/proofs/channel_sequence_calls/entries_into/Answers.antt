@@ -1,49 +1,25 @@
 -- The entries are read behind six bytes, whose three numbers stand in front of theirs.
 -- Assumes nothing.
-use Rattle.std.proofs.Common.{ℕ, List, ◌+◌, ◌≡◌, ◌≤◌, ◌++◌, ap, ◌∙◌, arith, eq-eqb, length, get_or, take}
-use Rattle.wire.specs.Reading.{read}
-use Rattle.channel_sequence.specs.declared.channel_sequence.ChannelSequence.{ChannelSequence}
-use Rattle.channel_sequence.specs.Sequences.{zero_sequence}
+use Rattle.std.proofs.Common.{◌≡◌, ◌+◌, ◌*◌, [], ◌∷◌, refl, arith, eq-eqb, get_or, drop, length-drop}
+use lib.Seq.{sets-eq}
 use Rattle.channel_sequence.specs.SequenceReader.{sequence}
-use Rattle.channel_sequence.proofs.RoundTrip.{sequence-lawful}
-use Rattle.channel_sequence_tlv.specs.SequenceTLVs.{zero_channel_sequence}
 use Rattle.channel_sequence_tlv.proofs.SequenceTLVs.{headed_by, count-right}
-use Rattle.exports.specs.Sequences.{channel_sequence_numbers}
-use Rattle.exports.proofs.Into.{behind-told, behind-value, behind-refused, three-in-front}
+use Rattle.exports.specs.Sequences.{sequence_numbers, channel_sequence_numbers}
+use Rattle.exports.proofs.Laid.{put-behind, laid-behind}
 use Rattle.exports.proofs.channel_sequence_calls.entries_into.Goals as goal
 
-inside : (s : List ℕ) (at : ℕ) → at + 6 ≤ length s → (q : ChannelSequence) (next : ℕ) → sequence (get_or s (at + 1) 0) s (at + 6) ≡ read q next
-    → (at + 6 ≤ next) × (next ≤ length s)
-inside s at room q next e = (sequence-lawful _).ahead room e
-
-pub returns-then-why-eq0-clause-told : goal.returns-then-why-eq0-clause-told
-returns-then-why-eq0-clause-told c =
-    let a = c.args in
-    let s = a.bytes.now in
-    let m = sequence (get_or s (a.at + 1) 0) s (a.at + 6) in
-    let joined = count-right s a.at c.requires.at_in_bounds (eq-eqb (get_or s a.at 0) 15 c.requires.at_value) in
-    rw joined
-    (behind-told zero_sequence zero_channel_sequence a.at 6 (headed_by s a.at) m (inside s a.at c.requires.at_in_bounds) c.if-why-eq0.true c.sequence_into-why.ensures.told).0
-
-pub returns-then-why-eq0-clause-laid : goal.returns-then-why-eq0-clause-laid
-returns-then-why-eq0-clause-laid c none =
-    let a = c.args in
-    let s = a.bytes.now in
-    let m = sequence (get_or s (a.at + 1) 0) s (a.at + 6) in
-    let joined = count-right s a.at c.requires.at_in_bounds (eq-eqb (get_or s a.at 0) 15 c.requires.at_value) in
-    let into = c.sequence_into-why.ensures in
-    let zero = c.if-why-eq0.true in
-    let front = three-in-front a.numbers.now a.to c.wide8.result c.wide8-2.result c.wide16.result _ (omega arith) in
-    let value = behind-value zero_sequence zero_channel_sequence a.at 6 (headed_by s a.at) m zero into.told in
-    rw joined
-    (into.laid zero
-    ∙ front
-    ∙ rw (c.wide8.ensures, c.wide8-2.ensures, c.wide16.ensures, c.u16_of.ensures) (ap (λ r. take a.to a.numbers.now ++ channel_sequence_numbers r) value))
-
-pub returns-else-why-eq0-clause-told : goal.returns-else-why-eq0-clause-told
-returns-else-why-eq0-clause-told c =
-    let a = c.args in
-    let s = a.bytes.now in
-    let m = sequence (get_or s (a.at + 1) 0) s (a.at + 6) in
-    let joined = count-right s a.at c.requires.at_in_bounds (eq-eqb (get_or s a.at 0) 15 c.requires.at_value) in
-    rw joined (behind-refused zero_sequence zero_channel_sequence a.at 6 (headed_by s a.at) m c.if-why-eq0.false c.sequence_into-why.ensures.told)
+pub returns : goal.returns
+returns c =
+    let s = c.args.s.now in
+    let at = c.args.at in
+    let ns = c.args.numbers.now in
+    let front = c.from.result ∷ c.from-2.result ∷ c.from-3.result ∷ [] in
+    let fill : c.from-3.result ≡ get_or s (at + 4) 0 + 256 * get_or s (at + 5) 0 = omega (arith, c.from-3.ensures, c.from_le_bytes.ensures) in
+    rw (
+      put-behind front (drop 3 ns) c.sequence_into.new.numbers 3 33 refl (sets-eq front ns 0 (omega arith)) (simp length-drop (omega arith)),
+      count-right s at c.requires.at_in_bounds (eq-eqb (get_or s at 0) 15 c.requires.at_value),
+      c.from.ensures,
+      c.from-2.ensures,
+      fill,
+    )
+    (laid-behind (get_or s (at + 2) 0 ∷ get_or s (at + 3) 0 ∷ (get_or s (at + 4) 0 + 256 * get_or s (at + 5) 0) ∷ []) sequence_numbers (headed_by s at) channel_sequence_numbers (λ q. refl) (sequence (get_or s (at + 1) 0) s (at + 6)) c.sequence_into.result _ c.sequence_into.ensures)

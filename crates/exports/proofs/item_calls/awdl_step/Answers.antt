@@ -16,5 +16,5 @@ returns-in-Item c =
     rw (sym c.in-Item.ensures)
     (record {
       number = refl;
-      numbers = λ i. item.at ∷ c.wide.ensures i ∷ item.length ∷ ((sym stands.place) i + 3) ∷ c.in-Item.next ∷ [];
+      numbers = λ i. item.at ∷ c.from.ensures i ∷ item.length ∷ ((sym stands.place) i + 3) ∷ c.in-Item.next ∷ [];
     })

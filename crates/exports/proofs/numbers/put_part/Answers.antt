@@ -2,19 +2,12 @@
 -- Assumes nothing.
 use Rattle.std.proofs.Common.{arith, length-set, add-one}
 use lib.Seq.{paste-suc}
-use Rattle.exports.proofs.Fits.{octet-in}
 use Rattle.exports.proofs.numbers.put_part.Goals as goal
-
-pub byte-requires : goal.byte-requires
-byte-requires c = octet-in c.args.part.now c.loop-i.i c.loop-i.invariant.3 (omega arith)
 
 pub loop-i-preserved : goal.loop-i-preserved
 loop-i-preserved c =
     let i = c.loop-i.i in (
-      omega arith,
-      omega arith,
       simp length-set (omega arith),
-      c.loop-i.invariant.3,
-      rw (c.byte.ensures, c.loop-i.invariant.4, add-one i)
+      rw (c.loop-i.invariant.1, add-one i)
           (paste-suc c.args.buffer.now c.args.at c.args.part.now i 0 (omega arith) (omega arith)),
     )
