@@ -17,7 +17,8 @@ use wire::{Refusal, Wire};
 #[derive(Clone, Copy, Debug, PartialEq, Eq, Hash, Default)]
 pub struct PhyTxTime(pub u32);
 
-// When the driver handed the frame to the radio, in microseconds.
+// When the driver handed the frame to the radio, in microseconds. It has the shape of the other stamp and is a type of its own, as
+// `tx_delta` asks: so the two cannot change places.
 #[derive(Clone, Copy, Debug, PartialEq, Eq, Hash, Default)]
 pub struct TargetTxTime(pub u32);
 
