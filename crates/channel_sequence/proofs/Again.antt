@@ -1,7 +1,6 @@
 -- A sequence that was read, and is no legacy one, is written again as it stood: its field was kept whole.
 -- Assumes nothing.
 use Prim.Native.Nat.{ℕ, ◌-◌, ◌*◌}
-use native.Mathlib.Omega.{arith}
 use mathlib.Core.Path.{◌≡◌, refl, sym, ap, ◌∙◌}
 use mathlib.Core.Bool.{Bool, true, false}
 use mathlib.Core.List.{List}
@@ -25,9 +24,9 @@ unfolding encoding_of
 not-legacy n found other = go (eqb n 0) (eqb n 3) refl refl
   where
     go : (b d : Bool) → eqb n 0 ≡ b → eqb n 3 ≡ d → ⊥
-    go true d e f = let found' = rw e at found in let z : ◌≡◌ {A = ℕ} 0 1 = cc in omega arith
-    go false true e f = let found' = rw (e, other, f) at found in let z : ◌≡◌ {A = ℕ} 0 1 = cc in omega arith
-    go false false e f = let found' = rw (e, other, f) at found in let z : ◌≡◌ {A = ℕ} 0 1 = cc in omega arith
+    go true d e f = cc (rw e at found)
+    go false true e f = cc (rw (e, other, f) at found)
+    go false false e f = cc (rw (e, other, f) at found)
 
 -- only the flags of a legacy sequence lose bits
 kept_whole : (n : ℕ) (encoding : ChannelEncoding) (bytes : List ℕ) → encoding_of n ≡ answer encoding → eqb n 1 ≡ false → kept_bytes encoding bytes ≡ bytes

@@ -11,7 +11,6 @@ use lib.Dec.{eqb, leb}
 use lib.ListN.{length, get_or, take, drop, set, drop_of_length-le}
 use lib.Seq.{take-suc-set}
 use borrow.Author.Tests.{eqb-true, eqb-false, leb-true, leb-false}
-use Rattle.wire.specs.declared.refusal.Refusal.{Refusal}
 use Rattle.wire.specs.declared.refusal.Refusal.TheVariants.{CorrectedChannel}
 use Rattle.wire.specs.Answer.{Answer, answer, refusal, ◌>>=◌}
 use Rattle.channel.specs.Channels.{support_channel, corrected_legacy}
@@ -38,9 +37,6 @@ at_entry entries i h =
     rw (next, two_at entries (2 * i) h)
 
 module _ (entries : List ℕ) (i : ℕ) (bytes : List ℕ) (h : 2 * i + 1 < length entries) (p : SoFar entries i bytes) where
-  pub one-refused : {why : Refusal} → corrected_inside (get_or entries (2 * i) 0) (get_or entries (2 * i + 1) 0) ≡ refusal why → corrected_all entries ≡ refusal why
-  one-refused e = p ∙ rw (at_entry entries i h, e)
-
   pub one_further : {channel : ℕ} → i < length bytes → corrected_inside (get_or entries (2 * i) 0) (get_or entries (2 * i + 1) 0) ≡ answer channel
       → SoFar entries (i + 1) (set bytes i channel)
   one_further {channel} k e =
@@ -70,8 +66,8 @@ first-and-others flags channel rest {channels} e = go (corrected_inside flags ch
     go : (found : Answer ℕ) (left : Answer (List ℕ)) → corrected_inside flags channel ≡ found → corrected_all rest ≡ left → FirstAndOthers flags channel rest channels
     go (answer first) (answer others) f o =
         let e' = rw (f, o) at e in record { first = first; others = others; inside = f; behind = o; made = cc }
-    go (answer first) (refusal why) f o = absurd (let e' = rw (f, o) at e in let z : ◌≡◌ {A = ℕ} 0 1 = cc in omega arith)
-    go (refusal why) left f o = absurd (let e' = rw f at e in let z : ◌≡◌ {A = ℕ} 0 1 = cc in omega arith)
+    go (answer first) (refusal why) f o = absurd (cc (rw (f, o) at e))
+    go (refusal why) left f o = absurd (cc (rw f at e))
 
 -- there is a channel for every two bytes, and it is that of its entry
 pub corrected-length : (entries : List ℕ) {channels : List ℕ} → corrected_all entries ≡ answer channels → length channels ≡ length entries / 2

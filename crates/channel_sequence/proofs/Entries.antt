@@ -114,11 +114,11 @@ sequence-sized q {n} e = go (encoding_of q.encoding) refl
         → (b : Bool) → consistent_bytes encoding q.bytes ≡ b → SequenceSized q n
     settle encoding f true h =
         let e' = rw (f, h) at e in record { encoding = encoding; found = f; consistent = h; size = cc }
-    settle encoding f false h = absurd (let e' = rw (f, h) at e in let z : ◌≡◌ {A = ℕ} 0 1 = cc in omega arith)
+    settle encoding f false h = absurd (cc (rw (f, h) at e))
 
     go : (found : Answer ChannelEncoding) → encoding_of q.encoding ≡ found → SequenceSized q n
     go (answer encoding) f = settle encoding f (consistent_bytes encoding q.bytes) refl
-    go (refusal why) f = absurd (let e' = rw f at e in let z : ◌≡◌ {A = ℕ} 0 1 = cc in omega arith)
+    go (refusal why) f = absurd (cc (rw f at e))
 
 -- no sequence takes more than its 32 bytes
 pub size-most : (encoding : ChannelEncoding) → 16 * entry_size encoding ≤ 32
@@ -158,7 +158,7 @@ pub sequence-written : (q : ChannelSequence) → length q.bytes ≡ 32 → {n : 
 sequence-written q whole {n} e = go (is_legacy q) refl
   where
     go : (b : Bool) → is_legacy q ≡ b → SequenceWritten q n
-    go true legacy = absurd (let e' = rw (legacy-refused q legacy) at e in let z : ◌≡◌ {A = ℕ} 0 1 = cc in omega arith)
+    go true legacy = absurd (cc (rw (legacy-refused q legacy) at e))
     go false other =
         let w = sequence-sized q (sym (size-length q whole other) ∙ e) in
         let most = size-most w.encoding in

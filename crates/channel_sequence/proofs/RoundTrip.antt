@@ -67,7 +67,7 @@ round_trip q whole e = go (encoding_of q.encoding) refl
           written = λ other. rw (f, other, right);
           back = bind-back _ (asked-back f) (rw (restored encoding q.bytes whole right) at reads);
         }
-    go (refusal why) f = absurd (let e' = rw f at e in let z : ◌≡◌ {A = ℕ} 0 1 = cc in omega arith)
+    go (refusal why) f = absurd (cc (rw f at e))
 
 pub encoding-lawful : (n : ℕ) → Lawful (asked (encoding_of n))
 unfolding encoding_of

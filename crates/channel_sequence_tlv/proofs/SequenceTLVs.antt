@@ -9,7 +9,7 @@ use mathlib.Core.Bool.{Bool, true, false}
 use mathlib.Core.List.{List, ◌++◌}
 use lib.Dec.{eqb, lit<}
 use lib.ListN.{length, get_or, take, drop, length-append}
-use borrow.Author.Tests.{eqb-true, eq-eqb}
+use borrow.Author.Tests.{eqb-true}
 use Rattle.wire.specs.declared.refusal.Refusal.{Refusal}
 use Rattle.wire.specs.declared.refusal.Refusal.TheVariants.{Short, ChannelCount}
 use Rattle.wire.specs.Reading.{Reader, read, refused, give, field, onward, ◌>>=◌}
@@ -92,16 +92,6 @@ module _ (s : List ℕ) (at : ℕ) (h : at + 6 ≤ length s) where
   unfolding channel_sequence_record
   count-right right =
       rw (count-there, byte-there 1 (lit< tt), byte-there 2 (lit< tt), byte-there 3 (lit< tt), fill-there, right)
-
-  -- and then the sequence behind them, with the fill channel by whatever has been shown to be equal to it
-  module _ (right : get_or s at 0 ≡ 15) where
-    pub entries-read : {q : ChannelSequence} {next fill : ℕ} → sequence (get_or s (at + 1) 0) s (at + 6) ≡ read q next
-        → fill ≡ get_or s (at + 4) 0 + 256 * get_or s (at + 5) 0
-        → channel_sequence_record s at ≡ read (record { duplicate_count = get_or s (at + 2) 0; step_count = get_or s (at + 3) 0; fill_channel = fill; channel_sequence = q }) next
-    entries-read e f = rw f (count-right (eq-eqb (get_or s at 0) 15 right) ∙ rw e)
-
-    pub entries-refused : {why : Refusal} → sequence (get_or s (at + 1) 0) s (at + 6) ≡ refused why → channel_sequence_record s at ≡ refused why
-    entries-refused e = count-right (eq-eqb (get_or s at 0) 15 right) ∙ rw e
 
 -- what a record was read of: six bytes with the count 15, and the entries behind them
 pub record HeadAndEntries (s : List ℕ) (at : ℕ) (c : ChannelSequenceTLV) (next : ℕ) : Type 0 where
