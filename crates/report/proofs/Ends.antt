@@ -1,12 +1,12 @@
 -- Each line brings a caller nearer to the end of the report: an item takes bytes of the tail, and a value comes once for each.
 -- Assumes nothing.
-use Prim.Native.Nat.{ℕ, ◌+◌, ◌*◌, ◌-◌, ◌≤◌, ◌<◌}
+use Prim.Native.Nat.{ℕ, ◌+◌, ◌*◌, ◌-◌, ◌<◌}
 use native.Mathlib.Omega.{arith}
 use mathlib.Core.Path.{◌≡◌, refl, sym, ap, ◌∙◌}
 use mathlib.Core.Bool.{Bool, true, false, cond}
 use mathlib.Core.List.{List}
 use lib.Dec.{eqb, leb}
-use lib.ListN.{length, drop, length-append}
+use lib.ListN.{length}
 use Rattle.std.specs.Prelude.{Option, Some}
 use Rattle.wire.specs.Reading.{Reading, read, refused}
 use Rattle.tlv_items.specs.declared.item.Item.{Item}
@@ -17,7 +17,7 @@ use Rattle.action_frame.specs.declared.AWDLActionFrame.{AWDLActionFrame}
 use Rattle.action_frame.specs.Frames.{header, tail_of}
 use Rattle.report.specs.declared.marks.Mark.{Mark}
 use Rattle.report.specs.Marks.{Stand, line, nothing, at_header, at_step, mark_behind, stands_at}
-use Rattle.report.specs.Shown.{answer_of, buffer_of, Shows}
+use Rattle.report.specs.Shown.{answer_of, Shows}
 
 -- how much is still to come from a mark, at most
 abbrev pub ahead : List ℕ → Mark → ℕ
@@ -69,7 +69,7 @@ module _ (frame : List ℕ) where
   nearer Mark.End = tt
 
   module _ (m : Mark) {s : List ℕ} {r : Option (ℕ × Mark)} {t : List ℕ} {n : ℕ} {next : Mark} (shown : Shows s (stands_at frame m) r t) (e : r ≡ Some (n, next)) where
-    -- what a call that showed a line answers is nearer to the end, and the line lies within the buffer
+    -- what a call that showed a line answers is nearer to the end
     pub line-nearer : ahead frame next < ahead frame m
     line-nearer = go (stands_at frame m) (sym shown.answer ∙ e) (nearer m)
       where
@@ -78,14 +78,3 @@ module _ (frame : List ℕ) where
             let both : ◌≡◌ {A = ℕ × Mark} (length l, next') (n, next) = cc in
             rw (ap (λ (p : ℕ × Mark). p.1) both) at h
         go nothing q h = cc
-
-    pub line-inside : n ≤ length t
-    line-inside = go (stands_at frame m) (sym shown.answer ∙ e) shown.buffer
-      where
-        go : (stand : Stand) → answer_of stand ≡ Some (n, next) → t ≡ buffer_of s stand → n ≤ length t
-        go (line l next') q b =
-            let both : ◌≡◌ {A = ℕ × Mark} (length l, next') (n, next) = cc in
-            let size : length l ≡ n = ap (λ (p : ℕ × Mark). p.0) both in
-            let all = ap length b ∙ length-append l (drop (length l) s) in
-            omega arith
-        go nothing q b = cc

@@ -98,7 +98,3 @@ bytes_in None = []
 pub said-bytes : (m : Option (List ℕ)) → meant m ≡ true → m ≡ Some (bytes_in m)
 said-bytes (Some bytes) e = refl
 said-bytes None e = cc
-
-pub no-hex : (m : Option (List ℕ)) → meant m ≡ false → m ≡ None
-no-hex (Some bytes) e = cc
-no-hex None e = refl
