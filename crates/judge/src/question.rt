@@ -109,7 +109,7 @@ impl Question {
         }
         let mut value = [0u8; 4099];
         let n = text::hex_into(&mut value, 0, text)?;
-        let (record, _) = ChannelSequenceTLV::read(value.get(..n).unwrap_or(&value), 0)?;
+        let (record, _) = ChannelSequenceTLV::read(&value[..n], 0)?;
         let sequence = record.channel_sequence;
         let _ = self.sequences.try_push(sequence.encoding);
         let _ = self.sequences.try_extend_from_slice(&sequence.bytes);
