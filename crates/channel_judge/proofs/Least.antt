@@ -1,28 +1,17 @@
 -- The first channel that none is below is found by going through the list with the best one so far: of two neighbours the one that is not smaller decides nothing.
 -- Assumes nothing.
-use Prim.Native.Nat.{ℕ, suc, ◌≤◌, ◌<◌}
+use Prim.Native.Nat.{ℕ, suc, ◌-◌, ◌≤◌, ◌<◌}
 use native.Mathlib.Nat.{le_refl}
 use native.Mathlib.Omega.{arith}
-use mathlib.Core.Path.{◌≡◌, refl, sym, ap, subst, ◌∙◌, fun_ext}
+use mathlib.Core.Path.{◌≡◌, refl, sym, ap, ◌∙◌, fun_ext}
 use mathlib.Core.Bool.{Bool, true, false, cond, ◌&&◌, ◌||◌, and-true, and-eq-true_iff, false≢true}
-use mathlib.Core.List.{List, [], ◌∷◌, map-id}
+use mathlib.Core.List.{List, [], ◌∷◌}
 use lib.Dec.{eqb, leb, ltb}
-use lib.ListN.{length}
+use lib.ListN.{length, get_or, take, drop}
+use lib.Seq.{take-length}
 use borrow.Author.Tests.{leb-true, le-leb, lt-leb, ltb-true, ltb-false}
-use denote.Ref.{Bor}
-use denote.Param.Members.{Mut}
-use Rattle.std.specs.Prelude.{Option, Some, None}
-use Rattle.std.specs.declared.cmp.Ordering.{Ordering}
-use Rattle.std.specs.declared.cmp.Ordering.TheVariants.{Less, Equal, Greater}
-use Rattle.std.specs.Ordering.{nat_cmp, min_by_ordering}
-use Rattle.std.specs.List.{FoldsTo, list_any}
-use Rattle.std.specs.Option.{ok_or}
-use Rattle.std.specs.Iterator.{ActsAsAt, KeyTurn, PicksMinByKey}
-use Rattle.std.proofs.lemmas.Iterator.{YieldsList, items_from_drains}
-use Rattle.std.proofs.lemmas.Bool.Decides.{nat_tests}
-use Rattle.wire.specs.declared.refusal.Refusal.TheVariants.{NonePermitted}
+use Rattle.std.specs.List.{list_any}
 use Rattle.wire.specs.Answer.{answer}
-use Rattle.wire.specs.Said.{told}
 use Rattle.channel_judge.specs.Judging.{is_permitted, none_below, first, own, proposed_by}
 
 -- the library's test of a list
@@ -119,40 +108,12 @@ module _ (load_of : ℕ → ℕ) where
   pub own-not-below : (s : List ℕ) → 0 < length s → (c o : ℕ) → o ≡ own load_of s → load_of c ≤ load_of o → none_below load_of s c ≡ true
   own-not-below s some c o e least = decided-by-own s some c ∙ rw (← e) (le-leb (load_of c) (load_of o) least)
 
-  -- the channels are gone through by their loads
-  kept_of : (o : Ordering) (best x : ℕ) → load_of (min_by_ordering o best x) ≡ min_by_ordering o (load_of best) (load_of x)
-  kept_of Less best x = refl
-  kept_of Equal best x = refl
-  kept_of Greater best x = refl
-
-  by-load : (best x : ℕ) → min_by_ordering (nat_cmp (load_of best) (load_of x)) best x ≡ smaller best x
-  by-load best x = grind (arith, nat_tests)
-
-  as-kept : {F : Type 0} (j : (F × ℕ) × ℕ) {f : F} {b : ℕ} → j.0.0 ≡ f → j.0.1 ≡ load_of b → j.1 ≡ b → j ≡ ((f, load_of b), b)
-  as-kept ((f', low), b') p q r = rw (p, q, r)
-
-  folded : {F : Type 0} (g : Mut F (Bor ℕ × Unit {0}) ℕ) {f : F} → ActsAsAt g f load_of → (xs : List ℕ) (best y : ℕ) (q : F × ℕ)
-      → FoldsTo {P = (F × ℕ) × ℕ} (KeyTurn min_by_ordering min_by_ordering g nat_cmp) ((f, load_of best), best) xs (q, y) → y ≡ least_from best xs
-  folded {F} g acts [] best y q e = sym (ap (λ (p : (F × ℕ) × ℕ). p.1) e)
-  folded {F} g {f} acts (x ∷ xs) best y q (j, (k, o, called, compared, key, item), rest) =
-      let a = acts x k j.0.0 called in
-      let next : j.1 ≡ smaller best x = item ∙ rw (← compared, a.1) (by-load best x) in
-      let low : j.0.1 ≡ load_of (smaller best x) = key ∙ rw a.1 (sym (kept_of o best x)) ∙ ap load_of (sym item ∙ next) in
-      let R : (F × ℕ) × ℕ → ℕ → (F × ℕ) × ℕ → Type 0 = KeyTurn min_by_ordering min_by_ordering g nat_cmp in
-      folded g acts xs (smaller best x) y q (subst (λ (p : (F × ℕ) × ℕ). FoldsTo R p xs (q, y)) (as-kept j a.0 low next) rest)
-
-  -- so it is found by its load, and the first of equal ones stays
-  pub picked : {S F : Type 0} {steps : S → Option ℕ → S → Type 0} {s : S} {permitted : List ℕ} (g : Mut F (Bor ℕ × Unit {0}) ℕ) {f : F} (r : Option ℕ)
-      → PicksMinByKey steps g nat_cmp s f r → YieldsList steps (λ x. x) s permitted → ActsAsAt g f load_of → told (ok_or r NonePermitted) ≡ proposed_by load_of permitted
-  picked {permitted = permitted} g None (u, (t, given, ended)) gives acts =
-      let none : [] ≡ permitted = items_from_drains [] (t, given, λ w. (u, ended)) gives in
-      rw (← none)
-  picked {F = F} {permitted = permitted} g {f} (Some y) (x, xs, k, f', q, (u, (t, given, ended)), called, turns) gives acts =
-      let all : x ∷ xs ≡ permitted = sym (map-id (x ∷ xs)) ∙ items_from_drains (x ∷ xs) (t, given, λ w. (u, ended)) gives in
-      let a = acts x k f' called in
-      let R : (F × ℕ) × ℕ → ℕ → (F × ℕ) × ℕ → Type 0 = KeyTurn min_by_ordering min_by_ordering g nat_cmp in
-      let least = folded g acts xs x y q (subst (λ (p : (F × ℕ) × ℕ). FoldsTo R p xs (q, y)) (as-kept ((f', k), x) a.0 a.1 refl) turns) in
-      rw (← all, le-leb 1 (suc (length xs)) (omega arith)) (ap answer (least ∙ sym (own-least x xs)))
+  -- the list's first channel, and those behind it
+  pub proposed-least : (s : List ℕ) → 1 ≤ length s → proposed_by load_of s ≡ answer (least_from (get_or s 0 0) (take (length s - 1) (drop 1 s)))
+  proposed-least [] some = absurd (omega arith)
+  proposed-least (b ∷ rest) some =
+      let many : suc (length rest) - 1 ≡ length rest = omega arith in
+      rw (le-leb 1 (suc (length rest)) (omega arith), many, take-length rest) (ap answer (own-least b rest))
 
   -- what was proposed is our own, of a list that is not empty
   pub proposed-own : (s : List ℕ) {o : ℕ} → answer o ≡ proposed_by load_of s → (0 < length s) × (o ≡ own load_of s)

@@ -53,11 +53,25 @@ impl Loads {
     pub(crate) fn least(&self, permitted: &[u8]) -> Result<u8, Refusal>
         ensures { told result ≡ proposed_by (load_by self.now) permitted.now }
     {
-        permitted
-            .iter()
-            .copied()
-            .min_by_key(|channel| self.of_channel(*channel))
-            .ok_or(Refusal::NonePermitted)
+        let [first, others @ ..] = permitted else {
+            return Err(Refusal::NonePermitted);
+        };
+        let mut own = *first;
+        for channel in others {
+            own = self.smaller(own, *channel);
+        }
+        Ok(own)
+    }
+
+    // Of two equal ones the first stays.
+    fn smaller(&self, best: u8, channel: u8) -> u8
+        ensures { result ≡ cond (ltb (load_by self.now channel) (load_by self.now best)) channel best }
+    {
+        if self.of_channel(channel) < self.of_channel(best) {
+            channel
+        } else {
+            best
+        }
     }
 
     // One pass over all sequences, which ends at an encoding that is not listed.

@@ -1,13 +1,15 @@
--- The channels come in the list's order, each by its load.
+-- Behind the last channel the best one is the least of all.
 -- Assumes nothing.
-use Rattle.std.proofs.Common.{rules}
-use Rattle.std.proofs.lemmas.Iterator.{YieldsList-from_slice}
-use Rattle.std.proofs.lemmas.Iterator.Consumers.{YieldsList-from_copied}
+use Rattle.std.proofs.Common.{◌≤◌, length, sym, ap, ◌∙◌, arith}
+use Rattle.std.proofs.lemmas.List.{drop_all}
+use Rattle.wire.specs.Answer.{answer}
 use Rattle.channel_judge.specs.Counters.{load_by}
-use Rattle.channel_judge.proofs.Least.{picked}
+use Rattle.channel_judge.proofs.Least.{least_from, proposed-least}
 use Rattle.channel_judge.proofs.loads.Loads.least.Goals as goal
 
 pub returns : goal.returns
 returns c =
-    rw c.ok_or.ensures.value
-    (picked (load_by c.args.self.now) _ c.min_by_key.result c.min_by_key.ensures.ran (YieldsList-from_copied (YieldsList-from_slice c.args.permitted.now (cc))) (λ x r q k. search rules))
+    let load_of = load_by c.args.self.now in
+    let some : 1 ≤ length c.args.permitted.now = omega arith in
+    let least = c.loop-channel.invariant ∙ ap (least_from load_of c.loop-channel.own) (drop_all _ _ c.loop-channel-test.false) in
+    rw (proposed-least load_of c.args.permitted.now some) (ap answer (sym least))
