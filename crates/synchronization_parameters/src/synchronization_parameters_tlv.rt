@@ -53,8 +53,8 @@ impl SynchronizationParametersTLV {
     pub fn read(s: &[u8]) -> Result<(SynchronizationParametersTLV, usize), Refusal>
         ensures { said result ≡ synchronization s.now 0 }
     {
-        // The length is asked once and each field then taken at its place, which is faster than a test for each. Only where the
-        // fixed part is not all there, the field that is short is looked for.
+        // The length is asked once, and each field is then taken at its place without a test of its own. Only where the fixed part
+        // is not all there, the field that is short is looked for.
         if s.len() < FIXED_SIZE {
             return Err(Refusal::Short(wire::first_short(s, 0, &WIDTHS)));
         }
