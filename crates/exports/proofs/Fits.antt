@@ -1,13 +1,12 @@
 -- A test that goes over two lists from the front: what is left of them decides, and each number, each part of a list that fits, fits too.
 -- Assumes nothing.
-use Prim.Native.Nat.{ℕ, zero, suc, ◌+◌, ◌≤◌, ◌<◌}
+use Prim.Native.Nat.{ℕ, zero, suc, ◌≤◌, ◌<◌}
 use native.Mathlib.Omega.{arith}
 use mathlib.Core.Path.{◌≡◌, refl, sym, ◌∙◌}
 use mathlib.Core.Bool.{Bool, true, false, ◌&&◌, false≢true, and_assoc, and-true}
 use mathlib.Core.List.{List, [], ◌∷◌}
 use lib.Dec.{leb}
 use lib.ListN.{length, get_or, take, drop}
-use lib.Seq.{get_or-take, get_or-drop}
 use borrow.Author.Tests.{leb-true}
 use Rattle.std.specs.List.{fold, zip}
 use Rattle.exports.specs.Held.{fits, octets}
@@ -54,12 +53,6 @@ among zero i h = absurd (omega (arith, h))
 among (suc n) zero h = refl
 among (suc n) (suc i) h = among n i (omega arith)
 
--- a number that stands among some that are to be bytes
-pub octet-at : (at k : ℕ) (ns : List ℕ) (i : ℕ) → fits (take k (drop at ns)) (octets k) ≡ true → i < k → get_or ns (at + i) 0 < 256
-octet-at at k ns i f h =
-    let below = fits-at (take k (drop at ns)) (octets k) i f in
-    let number : get_or (take k (drop at ns)) i 0 ≡ get_or ns (at + i) 0 = rw (get_or-take k (drop at ns) i 0 h, get_or-drop at ns i 0) in
-    omega (arith, rw (number, among k i h) at below)
-
+-- a number among some that are to be bytes
 pub octet_in : (ns : List ℕ) (i : ℕ) → fits ns (octets (length ns)) ≡ true → i < length ns → get_or ns i 0 < 256
 octet_in ns i f h = omega (arith, fits-at ns (octets (length ns)) i f, among (length ns) i h)

@@ -74,7 +74,7 @@ fn entries_into(s: &[u8], at: usize, numbers: &mut [u32]) -> Result<usize, Refus
     sequence_into(s, at + 6, s[at + 1], &mut numbers[3..36])
 }
 
-// Reads a record into its numbers. Where it is refused, what stands in these is not said.
+// Reads a record straight into its numbers (docs/SPEED.md). Where it is refused, what stands in these is not said.
 pub(crate) fn channel_sequence_into(
     s: &[u8],
     at: usize,
@@ -102,7 +102,7 @@ fn channel_sequence_told(numbers: &[u32; 36]) -> Result<usize, Refusal>
     Ok(6 + written_size(&numbers[3..36])?)
 }
 
-// Puts the bytes in front of the entries.
+// Puts the bytes in front of the entries. The room was asked once, and a step of the record's own writer would ask again (docs/SPEED.md).
 pub(crate) fn put_head(numbers: &[u32], buffer: &mut [u8], at: usize)
     requires many { length numbers.now ≡ 36 }
     requires largest_value { fits numbers.now channel_sequence_largest ≡ true }

@@ -1,5 +1,6 @@
-// A data path record is read straight into its numbers. Each of these reads a part of it at a place, lays its numbers down, and gives the
-// place behind it. Where a part is refused, what stands among the numbers is of no use.
+// A data path record is read straight into its numbers, since a record between them would go through memory (docs/SPEED.md). Each of these
+// reads a part of it at a place, lays its numbers down, and gives the place behind it. Where a part is refused, what stands among the numbers
+// is of no use.
 ghost use Rattle.std.specs.Prelude.{◌≡◌};
 ghost use Rattle.wire.specs.Reading.{when};
 ghost use Rattle.data_path_state.specs.DataPath.{data_path};

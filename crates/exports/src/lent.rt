@@ -25,7 +25,8 @@ pub(crate) trait Lent<const N: usize>: Copy {
     ghost zeros: { numbers_of zero ≡ replicate N 0 };
 }
 
-// Whether each number is one that its field holds. Every number is looked at, so that the compiler may look at several at once.
+// Whether each number is one that its field holds. Every number is looked at, so that the compiler may look at several at once; and they are
+// narrowed by `as` afterwards, since `try_from` would look at each again.
 pub(crate) fn fit(numbers: &[u32], largest: &[u32]) -> Result<(), Refusal>
     requires { length numbers.now ≡ length largest.now }
     ensures { told result ≡ require (fits numbers.now largest.now) Inconsistent }

@@ -44,7 +44,7 @@ fn tell_found<R: Lent<N>, const N: usize>(
     }
 }
 
-// The search of `tlvs`, with each value read straight into the numbers.
+// The search of `tlvs`, with each value read straight into the numbers (docs/SPEED.md).
 #[tactic(auto, using(tlvs::proofs::Searches::turns))]
 pub fn awdl_next_data_path(
     tail: &[u8],

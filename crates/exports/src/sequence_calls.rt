@@ -102,7 +102,8 @@ fn put_kept(numbers: &mut [u32], part: &[u8])
     }
 }
 
-// The bytes of a sequence as numbers, straight from those on the wire: no record stands between.
+// The bytes of a sequence as numbers, straight from those on the wire: a record between them would go through memory (docs/SPEED.md), and so
+// it is with the writers below.
 fn put_entries(known: ChannelEncoding, numbers: &mut [u32], part: &[u8])
     requires part_len { length part.now ≡ 16 * entry_size known }
     requires many { length numbers.old ≡ 32 }

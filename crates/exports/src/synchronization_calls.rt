@@ -156,7 +156,7 @@ fn put_fixed(s: &[u8], numbers: &mut [u32])
 // How many of the fixed bytes each field takes. The mode and its reserved byte are one.
 const WIDTHS: [u8; 18] = [1, 2, 1, 1, 2, 2, 2, 2, 2, 2, 1, 1, 1, 1, 6, 2, 2, 2];
 
-// Reads a record into numbers. Where it is refused, what stands in these is not said.
+// Reads a record straight into its numbers (docs/SPEED.md). Where it is refused, what stands in these is not said.
 fn synchronization_into(s: &[u8], numbers: &mut [u32; 60]) -> Result<usize, Refusal>
     ensures { beside result numbers.new ≡ numbered synchronization_numbers synchronization s.now 0 }
 {
@@ -176,7 +176,8 @@ fn synchronization_told(numbers: &[u32; 60]) -> Result<usize, Refusal>
     Ok(39 + written_size(&numbers[27..60])?)
 }
 
-// Puts the bytes in front of the sequence, those of the first ten fields and, behind them, the others.
+// Puts the bytes in front of the sequence, those of the first ten fields and, behind them, the others. The room was asked once, and a step
+// of the record's own writer would ask again (docs/SPEED.md).
 #[tactic(auto, using(crate::proofs::Synchronizations::small_synchronization))]
 fn put_front(numbers: &[u32; 60], buffer: &mut [u8])
     requires in_bounds { 17 ≤ length buffer.old }
