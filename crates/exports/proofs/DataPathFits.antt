@@ -1,11 +1,15 @@
 -- Numbers that fit a data path record fit it one by one, part by part, and in their channel.
 -- Assumes nothing.
 use Prim.Native.Nat.{ℕ, ◌≤◌}
-use mathlib.Core.Path.{◌≡◌}
-use mathlib.Core.Bool.{true}
+use mathlib.Core.Path.{◌≡◌, ap}
+use mathlib.Core.Bool.{Bool, true, false, ◌&&◌}
 use mathlib.Core.List.{List}
+use native.Mathlib.Omega.{arith}
 use lib.ListN.{get_or, take, drop}
-use Rattle.exports.specs.Held.{fits}
+use Rattle.wire.specs.declared.refusal.Refusal.{Refusal}
+use Rattle.wire.specs.declared.refusal.Refusal.TheVariants.{Inconsistent}
+use Rattle.wire.specs.Answer.{refusal, require}
+use Rattle.exports.specs.Held.{fits, held}
 use Rattle.exports.specs.DataPaths.{channel_fits, data_path_fits, data_path_largest}
 use Rattle.exports.proofs.Fits.{both, fits-at, fits-part}
 
@@ -21,3 +25,8 @@ module _ (ns : List ℕ) (fit : data_path_fits ns ≡ true) where
 
   pub held-channel : channel_fits (get_or ns 6 0) (get_or ns 7 0) ≡ true
   held-channel = (both (fits ns data_path_largest) _ fit).1
+
+-- a test that fails settles that both hold
+pub unfit : {A : Type 0} (a b : Bool) (v : A) {why : Refusal} → refusal why ≡ require a Inconsistent → refusal why ≡ held (a && b) v
+unfit true b v e = absurd (let z : ◌≡◌ {A = ℕ} 0 1 = cc in omega arith)
+unfit false b v {why} e = let same : why ≡ Inconsistent = cc in ap refusal same
