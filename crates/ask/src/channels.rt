@@ -16,6 +16,17 @@ pub(crate) enum ChannelCall {
     Band,
 }
 
+pub(crate) const CALLS: [(&str, ChannelCall); 8] = [
+    ("channel", ChannelCall::Channel),
+    ("encoding", ChannelCall::Encoding),
+    ("encoding_size", ChannelCall::EncodingSize),
+    ("entry_size", ChannelCall::EntrySize),
+    ("legacy_flags", ChannelCall::LegacyFlags),
+    ("support_channel", ChannelCall::SupportChannel),
+    ("channel_bandwidth", ChannelCall::Bandwidth),
+    ("band", ChannelCall::Band),
+];
+
 const ENCODINGS: [(&str, ChannelEncoding); 3] = [
     ("simple", ChannelEncoding::Simple),
     ("legacy", ChannelEncoding::Legacy),

@@ -14,16 +14,23 @@ use std::io::Write;
 #[derive(Clone, Copy, Debug, PartialEq, Eq, Hash)]
 pub(crate) enum DataPathCall {
     Read,
-    Consistent,
     Mend,
-    Size,
     ChannelWord,
     WordOfChannel,
     UnicastOptions,
     ExtendedFlags,
     Has,
-    Write,
 }
+
+pub(crate) const CALLS: [(&str, DataPathCall); 7] = [
+    ("data_path_read", DataPathCall::Read),
+    ("data_path_mend", DataPathCall::Mend),
+    ("channel_word", DataPathCall::ChannelWord),
+    ("word_of_channel", DataPathCall::WordOfChannel),
+    ("unicast_options", DataPathCall::UnicastOptions),
+    ("extended_flags", DataPathCall::ExtendedFlags),
+    ("has", DataPathCall::Has),
+];
 
 // The kind of a channel, which its word tells.
 #[derive(Clone, Copy, Debug, PartialEq, Eq, Hash)]
@@ -196,13 +203,6 @@ fn has(mut words: Words<'_>, out: &mut Output) -> Answered {
     out.number(b"has=", Ok(data_path_words::has(word, mask)))
 }
 
-fn write(mut words: Words<'_>, buffers: &mut Buffers, out: &mut Output) -> Answered {
-    let record: DataPathStateTLV = words.record()?;
-    let lent = words.only_bytes(&mut buffers.lent)?;
-    let size = record.write(lent);
-    out.wrote(size, lent)
-}
-
 pub(crate) fn answer(
     call: DataPathCall,
     words: Words<'_>,
@@ -214,17 +214,9 @@ pub(crate) fn answer(
             let value = words.only_bytes(&mut buffers.given)?;
             out.read(b"size=", DataPathStateTLV::read(value))
         }
-        DataPathCall::Consistent => {
-            let record: DataPathStateTLV = words.only_record()?;
-            out.number(b"consistent=", Ok(record.consistent()))
-        }
         DataPathCall::Mend => {
             let record: DataPathStateTLV = words.only_record()?;
             out.record(Ok(record.mend()))
-        }
-        DataPathCall::Size => {
-            let record: DataPathStateTLV = words.only_record()?;
-            out.number(b"size=", record.size())
         }
         DataPathCall::ChannelWord => {
             let word: u16 = words.only_value()?;
@@ -240,6 +232,5 @@ pub(crate) fn answer(
             out.number(b"bits=", Ok(DataPathExtendedFlags::from_bits(bits).0))
         }
         DataPathCall::Has => has(words, out),
-        DataPathCall::Write => write(words, buffers, out),
     }
 }

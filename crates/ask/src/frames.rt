@@ -17,6 +17,15 @@ pub(crate) enum FrameCall {
     Write,
 }
 
+pub(crate) const CALLS: [(&str, FrameCall); 6] = [
+    ("refusal", FrameCall::Refusal),
+    ("frame_read", FrameCall::Read),
+    ("tx_delta", FrameCall::TxDelta),
+    ("frame_tail", FrameCall::Tail),
+    ("offset_in_frame", FrameCall::OffsetInFrame),
+    ("frame_write", FrameCall::Write),
+];
+
 // The offset and the channel of a refusal stand behind its name.
 const REFUSALS: [(&str, Refusal); 15] = [
     ("Short", Refusal::Short(0)),

@@ -17,6 +17,16 @@ pub(crate) enum ItemCall {
     Write,
 }
 
+pub(crate) const CALLS: [(&str, ItemCall); 7] = [
+    ("step", ItemCall::Step),
+    ("step_with_value", ItemCall::StepWithValue),
+    ("reader_next", ItemCall::ReaderNext),
+    ("value", ItemCall::Value),
+    ("end", ItemCall::End),
+    ("walk", ItemCall::Walk),
+    ("write_item", ItemCall::Write),
+];
+
 fn show_step(step: Step, out: &mut Output) -> Answered {
     match step {
         Step::Item(item, next) => {

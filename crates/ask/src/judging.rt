@@ -10,6 +10,12 @@ pub(crate) enum JudgeCall {
     ChannelLoad,
 }
 
+pub(crate) const CALLS: [(&str, JudgeCall); 3] = [
+    ("judge", JudgeCall::Judge),
+    ("own_proposal", JudgeCall::OwnProposal),
+    ("channel_load", JudgeCall::ChannelLoad),
+];
+
 // Beside an acceptance no channel is shown.
 fn judge(mut words: Words<'_>, buffers: &mut Buffers, out: &mut Output) -> Answered {
     let sequences = words.bytes(&mut buffers.given)?;

@@ -17,6 +17,13 @@ pub(crate) enum LineCall {
     NextLine,
 }
 
+pub(crate) const CALLS: [(&str, LineCall); 4] = [
+    ("dump_start", LineCall::DumpStart),
+    ("lines", LineCall::Lines),
+    ("dump", LineCall::Dump),
+    ("next_line", LineCall::NextLine),
+];
+
 // What a mark's word says of it. The numbers of the mark stand behind the word.
 #[derive(Clone, Copy, Debug, PartialEq, Eq, Hash)]
 enum Kind {
@@ -122,12 +129,7 @@ fn next_line(mut words: Words<'_>, buffers: &mut Buffers, out: &mut Output) -> A
     out.named_hex(b" buffer=", &lent)
 }
 
-// A line without its end.
-fn without_end(line: &[u8; 128], length: usize) -> &[u8] {
-    line.get(..length.saturating_sub(1)).unwrap_or(line)
-}
-
-// Each line behind a bar.
+// Each line without its end, behind a bar.
 fn lines(frame: &[u8], start: Mark, out: &mut Output) -> Answered {
     let mut line = [0u8; 128];
     let mut mark = start;
@@ -135,7 +137,9 @@ fn lines(frame: &[u8], start: Mark, out: &mut Output) -> Answered {
     out.accepted()?;
     while let Some((length, next)) = report::next_line(frame, mark, &mut line) {
         out.text(b" | ")?;
-        out.text(without_end(&line, length))?;
+        if let Some((_, words)) = line[..length].split_last() {
+            out.text(words)?;
+        }
         mark = next;
         count = count.wrapping_add(1);
     }

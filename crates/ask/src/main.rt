@@ -13,6 +13,7 @@ mod judging;
 mod lines;
 mod output;
 mod record;
+mod records;
 mod searches;
 mod sequences;
 mod session;

@@ -69,7 +69,7 @@ impl Output {
         for some in bytes.chunks(64) {
             let mut digits = [0u8; 128];
             let n = text::put_hex(&mut digits, 0, some);
-            self.write_all(digits.get(..n).unwrap_or(&digits))?;
+            self.write_all(&digits[..n])?;
         }
         Ok(())
     }

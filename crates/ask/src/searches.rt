@@ -24,6 +24,30 @@ pub(crate) enum Sought {
     ChannelSequence,
 }
 
+use Search::{All, First, FirstInReader, Next};
+use Sought::{ChannelSequence, DataPath, Synchronization};
+
+pub(crate) const CALLS: [(&str, (Search, Sought)); 12] = [
+    ("first_data_path", (First, DataPath)),
+    ("next_data_path", (Next, DataPath)),
+    ("reader_first_data_path", (FirstInReader, DataPath)),
+    ("all_data_paths", (All, DataPath)),
+    ("first_synchronization", (First, Synchronization)),
+    ("next_synchronization", (Next, Synchronization)),
+    (
+        "reader_first_synchronization",
+        (FirstInReader, Synchronization),
+    ),
+    ("all_synchronizations", (All, Synchronization)),
+    ("first_channel_sequence", (First, ChannelSequence)),
+    ("next_channel_sequence", (Next, ChannelSequence)),
+    (
+        "reader_first_channel_sequence",
+        (FirstInReader, ChannelSequence),
+    ),
+    ("all_channel_sequences", (All, ChannelSequence)),
+];
+
 fn show_found<R: Record>(found: Found<R>, out: &mut Output) -> Answered {
     let behind = found.behind;
     out.text(b" found")?;
@@ -68,20 +92,20 @@ fn look<R: Record + tlvs::Record>(
 ) -> Answered {
     let tail = words.bytes(&mut buffers.given)?;
     match search {
-        Search::First => {
+        First => {
             words.end()?;
             show_one(R::first(tail), nothing, out)
         }
-        Search::Next => {
+        Next => {
             let place: usize = words.only_value()?;
             show_one(R::next(tail, place), nothing, out)
         }
-        Search::FirstInReader => {
+        FirstInReader => {
             let place: usize = words.only_value()?;
             let reader = ReadTLVs::new(tail).go_on(place);
             show_one(R::first_in(reader), nothing, out)
         }
-        Search::All => {
+        All => {
             words.end()?;
             show_all::<R>(tail, out)
         }
@@ -90,19 +114,18 @@ fn look<R: Record + tlvs::Record>(
 
 // Where nothing is found, a data path search answers no record and the others the zero one.
 pub(crate) fn answer(
-    search: Search,
-    sought: Sought,
+    (search, sought): (Search, Sought),
     words: Words<'_>,
     buffers: &mut Buffers,
     out: &mut Output,
 ) -> Answered {
     match sought {
-        Sought::DataPath => look::<DataPathStateTLV>(search, words, buffers, None, out),
-        Sought::Synchronization => {
+        DataPath => look::<DataPathStateTLV>(search, words, buffers, None, out),
+        Synchronization => {
             let zero = SynchronizationParametersTLV::default();
             look(search, words, buffers, Some(zero), out)
         }
-        Sought::ChannelSequence => {
+        ChannelSequence => {
             let zero = ChannelSequenceTLV::default();
             look(search, words, buffers, Some(zero), out)
         }

@@ -10,25 +10,21 @@ use channel_sequence_tlv::ChannelSequenceTLV;
 #[derive(Clone, Copy, Debug, PartialEq, Eq, Hash)]
 pub(crate) enum SequenceCall {
     Read,
-    Consistent,
-    Size,
-    WrittenSize,
     Fixed,
     ToSimple,
     Entry,
-    Write,
+    ReadRecord,
+    Head,
 }
 
-// The calls on the record.
-#[derive(Clone, Copy, Debug, PartialEq, Eq, Hash)]
-pub(crate) enum ChannelSequenceCall {
-    Read,
-    Consistent,
-    Size,
-    WrittenSize,
-    Head,
-    Write,
-}
+pub(crate) const CALLS: [(&str, SequenceCall); 6] = [
+    ("sequence_read", SequenceCall::Read),
+    ("sequence_fixed", SequenceCall::Fixed),
+    ("sequence_to_simple", SequenceCall::ToSimple),
+    ("sequence_entry", SequenceCall::Entry),
+    ("channel_sequence_read", SequenceCall::ReadRecord),
+    ("channel_sequence_head", SequenceCall::Head),
+];
 
 impl Record for ChannelSequence {
     fn through<P: Pass>(self, fields: &mut P) -> Result<ChannelSequence, Fault> {
@@ -67,11 +63,10 @@ fn entry(mut words: Words<'_>, out: &mut Output) -> Answered {
     }
 }
 
-fn write(mut words: Words<'_>, buffers: &mut Buffers, out: &mut Output) -> Answered {
-    let sequence: ChannelSequence = words.record()?;
-    let lent = words.only_bytes(&mut buffers.lent)?;
-    let size = sequence.write(lent);
-    out.wrote(size, lent)
+fn read_record(mut words: Words<'_>, buffers: &mut Buffers, out: &mut Output) -> Answered {
+    let bytes = words.bytes(&mut buffers.given)?;
+    let at: usize = words.only_value()?;
+    out.read(b"next=", ChannelSequenceTLV::read(bytes, at))
 }
 
 pub(crate) fn answer(
@@ -82,18 +77,6 @@ pub(crate) fn answer(
 ) -> Answered {
     match call {
         SequenceCall::Read => read(words, buffers, out),
-        SequenceCall::Consistent => {
-            let sequence: ChannelSequence = words.only_record()?;
-            out.number(b"consistent=", sequence.consistent())
-        }
-        SequenceCall::Size => {
-            let sequence: ChannelSequence = words.only_record()?;
-            out.number(b"size=", sequence.size())
-        }
-        SequenceCall::WrittenSize => {
-            let sequence: ChannelSequence = words.only_record()?;
-            out.number(b"size=", sequence.written_size())
-        }
         SequenceCall::Fixed => {
             let channel: Channel = words.only_record()?;
             out.record(ChannelSequence::fixed_channel_sequence(channel))
@@ -103,47 +86,10 @@ pub(crate) fn answer(
             out.record(sequence.to_simple())
         }
         SequenceCall::Entry => entry(words, out),
-        SequenceCall::Write => write(words, buffers, out),
-    }
-}
-
-fn read_record(mut words: Words<'_>, buffers: &mut Buffers, out: &mut Output) -> Answered {
-    let bytes = words.bytes(&mut buffers.given)?;
-    let at: usize = words.only_value()?;
-    out.read(b"next=", ChannelSequenceTLV::read(bytes, at))
-}
-
-fn write_record(mut words: Words<'_>, buffers: &mut Buffers, out: &mut Output) -> Answered {
-    let record: ChannelSequenceTLV = words.record()?;
-    let lent = words.only_bytes(&mut buffers.lent)?;
-    let size = record.write(lent);
-    out.wrote(size, lent)
-}
-
-pub(crate) fn answer_record(
-    call: ChannelSequenceCall,
-    words: Words<'_>,
-    buffers: &mut Buffers,
-    out: &mut Output,
-) -> Answered {
-    match call {
-        ChannelSequenceCall::Read => read_record(words, buffers, out),
-        ChannelSequenceCall::Consistent => {
-            let record: ChannelSequenceTLV = words.only_record()?;
-            out.number(b"consistent=", record.consistent())
-        }
-        ChannelSequenceCall::Size => {
-            let record: ChannelSequenceTLV = words.only_record()?;
-            out.number(b"size=", record.size())
-        }
-        ChannelSequenceCall::WrittenSize => {
-            let record: ChannelSequenceTLV = words.only_record()?;
-            out.number(b"size=", record.written_size())
-        }
-        ChannelSequenceCall::Head => {
+        SequenceCall::ReadRecord => read_record(words, buffers, out),
+        SequenceCall::Head => {
             let record: ChannelSequenceTLV = words.only_record()?;
             out.named_hex(b"0 offset=0 head=", &record.head())
         }
-        ChannelSequenceCall::Write => write_record(words, buffers, out),
     }
 }

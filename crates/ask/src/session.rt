@@ -1,6 +1,6 @@
 // The lines of the input, each a question, and their answers.
 use crate::buffers::Buffers;
-use crate::calls::{CALLS, answer};
+use crate::calls::answer;
 use crate::output::{Answered, Fault, Output};
 use crate::words::Words;
 use arrayvec::ArrayVec;
@@ -22,8 +22,8 @@ fn ask(line: &[u8], buffers: &mut Buffers, out: &mut Output) -> Answered {
         return Err(Fault::BadQuestion);
     }
     let mut words = Words::new(line);
-    let call = words.among(&CALLS)?;
-    answer(call, words, buffers, out)
+    let name = words.next();
+    answer(name, words, buffers, out)
 }
 
 // Lines without a word and lines that start with # have no answer, but for those that are too long.

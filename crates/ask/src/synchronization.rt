@@ -5,15 +5,6 @@ use crate::record::{Pass, Record};
 use crate::words::Words;
 use synchronization_parameters::SynchronizationParametersTLV;
 
-#[derive(Clone, Copy, Debug, PartialEq, Eq, Hash)]
-pub(crate) enum SynchronizationCall {
-    Read,
-    Consistent,
-    Size,
-    WrittenSize,
-    Write,
-}
-
 impl Record for SynchronizationParametersTLV {
     fn through<P: Pass>(self, fields: &mut P) -> Result<SynchronizationParametersTLV, Fault> {
         Ok(SynchronizationParametersTLV {
@@ -50,36 +41,7 @@ impl Record for SynchronizationParametersTLV {
     }
 }
 
-fn write(mut words: Words<'_>, buffers: &mut Buffers, out: &mut Output) -> Answered {
-    let record: SynchronizationParametersTLV = words.record()?;
-    let lent = words.only_bytes(&mut buffers.lent)?;
-    let size = record.write(lent);
-    out.wrote(size, lent)
-}
-
-pub(crate) fn answer(
-    call: SynchronizationCall,
-    words: Words<'_>,
-    buffers: &mut Buffers,
-    out: &mut Output,
-) -> Answered {
-    match call {
-        SynchronizationCall::Read => {
-            let value = words.only_bytes(&mut buffers.given)?;
-            out.read(b"size=", SynchronizationParametersTLV::read(value))
-        }
-        SynchronizationCall::Consistent => {
-            let record: SynchronizationParametersTLV = words.only_record()?;
-            out.number(b"consistent=", record.consistent())
-        }
-        SynchronizationCall::Size => {
-            let record: SynchronizationParametersTLV = words.only_record()?;
-            out.number(b"size=", record.size())
-        }
-        SynchronizationCall::WrittenSize => {
-            let record: SynchronizationParametersTLV = words.only_record()?;
-            out.number(b"size=", record.written_size())
-        }
-        SynchronizationCall::Write => write(words, buffers, out),
-    }
+pub(crate) fn read(words: Words<'_>, buffers: &mut Buffers, out: &mut Output) -> Answered {
+    let value = words.only_bytes(&mut buffers.given)?;
+    out.read(b"size=", SynchronizationParametersTLV::read(value))
 }

@@ -1,5 +1,8 @@
 // Values that a word of a question stands for, and that an answer shows.
+ghost use Rattle.std.specs.Prelude.{◌≤◌, length, IfSome};
+
 use crate::output::Output;
+use std::fmt::Display;
 use std::io;
 use std::io::Write;
 use wire::MACAddress;
@@ -10,39 +13,26 @@ pub(crate) trait Value: Copy {
     fn show(self, out: &mut Output) -> io::Result<()>;
 }
 
-impl Value for u8 {
-    fn of(word: &[u8]) -> Option<u8> {
-        u8::try_from(text::decimal_of(word)?).ok()
-    }
+// The numbers, each as far as its type goes.
+pub(crate) trait Number: Copy + Display + TryFrom<u64>
+where
+    Self::Error: Drop,
+{}
 
-    fn show(self, out: &mut Output) -> io::Result<()> {
-        write!(out, "{self}")
-    }
-}
+impl Number for u8 {}
 
-impl Value for u16 {
-    fn of(word: &[u8]) -> Option<u16> {
-        u16::try_from(text::decimal_of(word)?).ok()
-    }
+impl Number for u16 {}
 
-    fn show(self, out: &mut Output) -> io::Result<()> {
-        write!(out, "{self}")
-    }
-}
+impl Number for u32 {}
 
-impl Value for u32 {
-    fn of(word: &[u8]) -> Option<u32> {
-        u32::try_from(text::decimal_of(word)?).ok()
-    }
+impl Number for usize {}
 
-    fn show(self, out: &mut Output) -> io::Result<()> {
-        write!(out, "{self}")
-    }
-}
-
-impl Value for usize {
-    fn of(word: &[u8]) -> Option<usize> {
-        usize::try_from(text::decimal_of(word)?).ok()
+impl<T: Number> Value for T
+where
+    T::Error: Drop,
+{
+    fn of(word: &[u8]) -> Option<T> {
+        T::try_from(text::decimal_of(word)?).ok()
     }
 
     fn show(self, out: &mut Output) -> io::Result<()> {
@@ -93,7 +83,9 @@ impl<const N: usize> Value for [u8; N] {
 }
 
 // Hex digits, or two of them, a star, and how often.
-fn put_part(part: &[u8], buf: &mut [u8], at: usize) -> Option<usize> {
+fn put_part(part: &[u8], buf: &mut [u8], at: usize) -> Option<usize>
+    ensures { IfSome result (λ n. n ≤ length buf.new) }
+{
     match part.split_first_chunk::<3>() {
         Some(([high, low, b'*'], times)) => {
             let mut one = [0u8; 1];
@@ -107,7 +99,9 @@ fn put_part(part: &[u8], buf: &mut [u8], at: usize) -> Option<usize> {
 }
 
 // Puts the bytes that a word gives, parts of them with plus signs between, and tells how many there are.
-pub(crate) fn put_bytes(word: &[u8], buf: &mut [u8]) -> Option<usize> {
+pub(crate) fn put_bytes(word: &[u8], buf: &mut [u8]) -> Option<usize>
+    ensures { IfSome result (λ n. n ≤ length buf.new) }
+{
     if word == b"-".as_slice() {
         return Some(0);
     }
@@ -120,12 +114,8 @@ pub(crate) fn put_bytes(word: &[u8], buf: &mut [u8]) -> Option<usize> {
 
 // What a word of a table stands for.
 pub(crate) fn among<T: Copy>(table: &[(&'static str, T)], word: &[u8]) -> Option<T> {
-    for (name, value) in table {
-        if name.as_bytes() == word {
-            return Some(*value);
-        }
-    }
-    None
+    let (_, value) = table.iter().find(|(name, _)| name.as_bytes() == word)?;
+    Some(*value)
 }
 
 // The word that stands for a value. A value that has none is shown by nothing.
@@ -133,10 +123,8 @@ pub(crate) fn name_of<T: Copy + PartialEq>(
     table: &[(&'static str, T)],
     wanted: T,
 ) -> &'static [u8] {
-    for (name, value) in table {
-        if *value == wanted {
-            return name.as_bytes();
-        }
+    match table.iter().find(|(_, value)| *value == wanted) {
+        Some((name, _)) => name.as_bytes(),
+        None => b"",
     }
-    b""
 }

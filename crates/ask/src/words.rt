@@ -46,7 +46,7 @@ impl<'a> Words<'a> {
     // Bytes go into a buffer, which has room for the longest argument.
     pub(crate) fn bytes<'b>(&mut self, buf: &'b mut [u8]) -> Result<&'b mut [u8], Fault> {
         let n = put_bytes(self.next(), buf).ok_or(Fault::BadQuestion)?;
-        buf.get_mut(..n).ok_or(Fault::BadQuestion)
+        Ok(&mut buf[..n])
     }
 
     // Nothing stands behind the arguments.
