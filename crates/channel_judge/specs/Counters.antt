@@ -20,10 +20,10 @@ AtMost n counters = (channel : ℕ) → load_by counters channel ≤ n
 pub record Grown (before : Loads) (by : ℕ → ℕ) (after : Loads) : Type 0 where
   pub each : (channel : ℕ) → load_by after channel ≡ load_by before channel + by channel
 
--- what an answer with counters says: the load of every channel, or why there is none
-abbrev pub said_loads : Result Loads Refusal → Answer (ℕ → ℕ)
-said_loads (Ok counters) = answer (load_by counters)
-said_loads (Err why) = refusal why
+-- what an answer beside counters says: the load of every channel, or why there is none
+abbrev pub said_loads : Result (Unit {0}) Refusal → Loads → Answer (ℕ → ℕ)
+said_loads (Ok done) counters = answer (load_by counters)
+said_loads (Err why) counters = refusal why
 
 -- the whole sequences among what is lent
 abbrev pub whole_sequences : List ℕ → List ChannelSequence

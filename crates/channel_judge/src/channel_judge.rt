@@ -9,19 +9,25 @@ use wire::Refusal;
 pub fn judge(sequences: &[u8], permitted: &[u8], proposal: u8) -> Result<(), Refusal>
     ensures { told result ≡ judged sequences.now permitted.now proposal }
 {
-    Loads::of(sequences, permitted.len())?.judge(permitted, proposal)
+    let mut loads = Loads::new();
+    loads.count_lent(sequences, permitted.len())?;
+    loads.judge(permitted, proposal)
 }
 
 // The first channel of the list that the judge accepts.
 pub fn own_proposal(sequences: &[u8], permitted: &[u8]) -> Result<u8, Refusal>
     ensures { told result ≡ proposed sequences.now permitted.now }
 {
-    Loads::of(sequences, permitted.len())?.least(permitted)
+    let mut loads = Loads::new();
+    loads.count_lent(sequences, permitted.len())?;
+    loads.least(permitted)
 }
 
 // How many entries stand for a channel, permitted or not.
 pub fn channel_load(sequences: &[u8], channel: u8) -> Result<u16, Refusal>
     ensures { told result ≡ load_in sequences.now channel }
 {
-    Ok(Loads::of(sequences, 0)?.of_channel(channel))
+    let mut loads = Loads::new();
+    loads.count_lent(sequences, 0)?;
+    Ok(loads.of_channel(channel))
 }

@@ -15,10 +15,19 @@ pub(crate) struct Loads {
 }
 
 impl Loads {
-    // The load of every channel: one pass over what is lent.
+    // No entry is counted yet. The callers' proofs need not see the 256 zeros.
+    pub(crate) fn new() -> Loads
+        ensures { AtMost 0 result }
+    {
+        Loads { counts: [0; 256] }
+    }
+
+    // The load of every channel: one pass over what is lent. The counters are filled where they stand, since a `Result` that held
+    // them would be copied from call to call.
     #[tactic(auto, using(crate::proofs::Loaded::of_loads))]
-    pub(crate) fn of(sequences: &[u8], channels: usize) -> Result<Loads, Refusal>
-        ensures { said_loads result ≡ lent_loads sequences.now channels }
+    pub(crate) fn count_lent(&mut self, sequences: &[u8], channels: usize) -> Result<(), Refusal>
+        requires { AtMost 0 self.old }
+        ensures { said_loads result self.new ≡ lent_loads sequences.now channels }
     {
         let many = sequences.len() / 33;
         if sequences.len() % 33 != 0 {
@@ -27,7 +36,7 @@ impl Loads {
         if 64 < many || 16 < channels {
             return Err(Refusal::TooMany);
         }
-        Loads::counted(sequences)
+        self.count_sequences(sequences)
     }
 
     pub(crate) fn of_channel(&self, channel: u8) -> u16
@@ -75,16 +84,16 @@ impl Loads {
     }
 
     // One pass over all sequences, which ends at an encoding that is not listed.
-    fn counted(sequences: &[u8]) -> Result<Loads, Refusal>
-        requires { length sequences.now / 33 ≤ 64 }
-        ensures { said_loads result ≡ counted (whole_sequences sequences.now) }
+    fn count_sequences(&mut self, sequences: &[u8]) -> Result<(), Refusal>
+        requires at_most { AtMost 0 self.old }
+        requires few { length sequences.now / 33 ≤ 64 }
+        ensures { said_loads result self.new ≡ counted (whole_sequences sequences.now) }
     {
-        let mut loads = Loads { counts: [0; 256] };
         for sequence in sequences.chunks_exact(33) {
             let encoding = ChannelEncoding::try_from(sequence[0])?;
-            loads.count_sequence(encoding, &sequence[1..]);
+            self.count_sequence(encoding, &sequence[1..]);
         }
-        Ok(loads)
+        Ok(())
     }
 
     // The sixteen entries of one sequence.
