@@ -1,14 +1,15 @@
 -- The first channel that none is below is found by going through the list with the best one so far: of two neighbours the one that is not smaller decides nothing.
 -- Assumes nothing.
-use Prim.Native.Nat.{ℕ, suc, ◌-◌, ◌≤◌, ◌<◌}
+use Prim.Native.Nat.{ℕ, suc, ◌+◌, ◌-◌, ◌≤◌, ◌<◌}
 use native.Mathlib.Nat.{le_refl}
+use native.Mathlib.Numerals.{add-one}
 use native.Mathlib.Omega.{arith}
 use mathlib.Core.Path.{◌≡◌, refl, sym, ap, ◌∙◌, fun_ext}
 use mathlib.Core.Bool.{Bool, true, false, cond, ◌&&◌, ◌||◌, and-true, and-eq-true_iff, false≢true}
 use mathlib.Core.List.{List, [], ◌∷◌}
 use lib.Dec.{eqb, leb, ltb}
 use lib.ListN.{length, get_or, take, drop}
-use lib.Seq.{take-length}
+use lib.Seq.{take-length, drop-cons}
 use borrow.Author.Tests.{leb-true, le-leb, lt-leb, ltb-true, ltb-false}
 use Rattle.std.specs.List.{list_any}
 use Rattle.wire.specs.Answer.{answer}
@@ -96,6 +97,15 @@ module _ (load_of : ℕ → ℕ) where
   least-decides : (b : ℕ) (rest : List ℕ) (c : ℕ) → none_below load_of (b ∷ rest) c ≡ leb (load_of c) (load_of (least_from b rest))
   least-decides b [] c = and-true (leb (load_of c) (load_of b))
   least-decides b (x ∷ rest) c = of_two b x rest c ∙ least-decides (smaller b x) rest c
+
+  -- a step through the list
+  pub least_step : (s : List ℕ) (best i : ℕ) → i < length s → least_from best (drop i s) ≡ least_from (smaller best (get_or s i 0)) (drop (i + 1) s)
+  least_step s best i h = rw (drop-cons s i 0 h, add-one i)
+
+  -- of a list that is not empty
+  pub own_of : (s : List ℕ) → 0 < length s → own load_of s ≡ least_from (get_or s 0 0) (drop 1 s)
+  own_of [] some = absurd (omega arith)
+  own_of (b ∷ rest) some = own-least b rest
 
   pub decided-by-own : (s : List ℕ) → 0 < length s → (c : ℕ) → none_below load_of s c ≡ leb (load_of c) (load_of (own load_of s))
   decided-by-own [] some c = absurd (omega arith)
