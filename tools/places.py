@@ -7,7 +7,7 @@ With --count it prints the counts alone. A row is a place to look at, not a verd
 1b  a field that is a flag and stands in a struct beside others
 1c  a function that answers a number for a kind or for a refusal
 2   functions whose texts are the same but for names, types and numbers, in groups
-3   a `while` or a `loop`
+3   a `while`, a `loop`, and a `for` over a range of numbers
 4   a cast by `as`, a function of `std::num`, and a function that converts or compares by hand, by its name
 5a  a clause of a `requires` that stands in three or more functions of a crate
 5b  parameters that stand together, by name and type, in three or more functions of a crate
@@ -73,9 +73,9 @@ for crate in sorted((root / "crates").iterdir()):
                 rows["4"].append(f"{where} (by its name)")
         for number, line in enumerate(text.split("\n"), 1):
             code = re.sub(r"//.*", "", line)
-            if re.match(r"\s*(?:'\w+: )?(?:while|loop)\b", code):
+            if re.match(r"\s*(?:'\w+: )?(?:while\b|loop\b|for \w+ in \(?[\w.()]*\.\.)", code):
                 rows["3"].append(f"{place(file, number)} {code.strip()}")
-            rows["4"] += [f"{place(file, number)} {m}" for m in re.findall(r"\w+\)? as u\w+|std::num::\w+", code)]
+            rows["4"] += [f"{place(file, number)} {m}" for m in re.findall(r"[\w\])]+ as u\w+|std::num::\w+", code)]
             rows["6"] += [f"{place(file, number)} {m}" for m in re.findall(r"let mut \w+ = \[0\w*; \d+\]", code)]
         for found in re.finditer(r"^( *)(?:[\w .=]*)match [^\n]*\{\n(.*?)^\1\}", text, re.M | re.S):
             arms = len(re.findall(rf"^{found[1]}    \S.*=>", found[2], re.M))
