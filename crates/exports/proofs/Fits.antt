@@ -1,12 +1,15 @@
 -- A test that goes over two lists from the front: what is left of them decides, and each number, each part of a list that fits, fits too.
 -- Assumes nothing.
-use Prim.Native.Nat.{ℕ, zero, suc, ◌≤◌, ◌<◌}
+use Prim.Native.Nat.{ℕ, zero, suc, ◌+◌, ◌≤◌, ◌<◌}
+use native.Mathlib.Nat.{zero-add}
+use native.Mathlib.Numerals.{add-one}
 use native.Mathlib.Omega.{arith}
-use mathlib.Core.Path.{◌≡◌, refl, sym, ◌∙◌}
+use mathlib.Core.Path.{◌≡◌, refl, sym, ap, ◌∙◌}
 use mathlib.Core.Bool.{Bool, true, false, ◌&&◌, false≢true, and_assoc, and-true}
 use mathlib.Core.List.{List, [], ◌∷◌}
 use lib.Dec.{leb}
-use lib.ListN.{length, get_or, take, drop}
+use lib.ListN.{length, get_or, set, take, drop, length-drop}
+use lib.Seq.{paste, paste-suc, get_or-drop}
 use borrow.Author.Tests.{leb-true}
 use Rattle.std.specs.List.{fold, zip}
 use Rattle.exports.specs.Held.{fits, octets}
@@ -56,3 +59,10 @@ among (suc n) (suc i) h = among n i (omega arith)
 -- a number among some that are to be bytes
 pub octet_in : (ns : List ℕ) (i : ℕ) → fits ns (octets (length ns)) ≡ true → i < length ns → get_or ns i 0 < 256
 octet_in ns i f h = omega (arith, fits-at ns (octets (length ns)) i f, among (length ns) i h)
+
+-- numbers that are taken over one by one, from a place on
+pub taken_step : (z ns : List ℕ) (at i v : ℕ) → i < length z → at + length z ≤ length ns → v ≡ get_or ns (at + i) 0
+    → set (paste z 0 (drop at ns) i) i v ≡ paste z 0 (drop at ns) (i + 1)
+taken_step z ns at i v h room e =
+    let place : set (paste z 0 (drop at ns) i) i v ≡ set (paste z 0 (drop at ns) i) (0 + i) v = ap (λ k. set (paste z 0 (drop at ns) i) k v) (sym (zero-add i)) in
+    place ∙ rw (e, ← get_or-drop at ns i 0, add-one i) (paste-suc z 0 (drop at ns) i 0 (omega arith) (rw (length-drop at ns) (omega arith)))

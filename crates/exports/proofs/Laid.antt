@@ -1,10 +1,10 @@
 -- How numbers stand behind others, and what a reader tells that laid its record's numbers down.
 -- Assumes nothing.
-use Prim.Native.Nat.{ℕ, ◌≤◌}
+use Prim.Native.Nat.{ℕ, ◌+◌, ◌≤◌}
 use mathlib.Core.Path.{◌≡◌, refl, sym, ap, ◌∙◌}
 use mathlib.Core.List.{List, ◌++◌, append-nil}
-use lib.ListN.{length, drop_of_length-le}
-use lib.Seq.{take_at, drop_at}
+use lib.ListN.{length, take, drop, drop_of_length-le}
+use lib.Seq.{take_at, drop_at, drop-length}
 use borrow.Rule.Slice.PartMut.{put_mid}
 use Rattle.std.specs.Prelude.{Result, Ok, Err}
 use Rattle.wire.specs.declared.refusal.Refusal.{Refusal}
@@ -18,6 +18,10 @@ use Rattle.exports.specs.Told.{ToldReading}
 pub put-behind : (front rest ys : List ℕ) {xs : List ℕ} (k n : ℕ) → length front ≡ k → xs ≡ front ++ rest → length rest ≤ n → put_mid k n xs ys ≡ front ++ ys
 put-behind front rest ys k n long e few =
     rw (e, take_at front rest k long, drop_at front rest k long, drop_of_length-le rest {i = n} few) (ap (λ behind. front ++ behind) (append-nil ys))
+
+-- numbers up to the last one
+pub put_last : (ns : List ℕ) (at : ℕ) (bytes : List ℕ) → at + length bytes ≡ length ns → take at ns ++ bytes ++ drop (at + length bytes) ns ≡ take at ns ++ bytes
+put_last ns at bytes e = rw (e, drop-length ns) (append-nil (take at ns ++ bytes))
 
 -- what is read behind those of a front
 pub onto : (front ns : List ℕ) (r : Result ℕ Refusal) {m : Reading (List ℕ)} → beside r ns ≡ m → beside r (front ++ ns) ≡ onward m (λ l p. read (front ++ l) p)
