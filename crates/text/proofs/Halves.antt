@@ -2,10 +2,11 @@
 -- Assumes nothing.
 use Prim.Native.Nat.{ℕ, zero, suc, ◌+◌, ◌*◌, ◌/◌, ◌%◌, ◌<◌}
 use native.Mathlib.Omega.{arith}
-use mathlib.Core.Path.{◌≡◌, refl}
-use mathlib.Core.Bool.{true, false}
+use mathlib.Core.Path.{◌≡◌, refl, sym, ◌∙◌}
+use mathlib.Core.Bool.{Bool, true, false, not}
 use mathlib.Core.List.{List, [], ◌∷◌, ◌++◌}
 use lib.ListN.{length, get_or, take}
+use borrow.Author.Tests.{not-false}
 use Rattle.std.specs.Prelude.{Option, Some, None, nat_eq}
 use Rattle.std.specs.Option.{is_some}
 use Rattle.text.specs.Text.{hex, hex_digit}
@@ -16,6 +17,22 @@ pub length-hex : (bytes : List ℕ) → length (hex bytes) ≡ 2 * length bytes
 unfolding hex
 length-hex [] = refl
 length-hex (b ∷ bs) = let more = length-hex bs in omega arith
+
+pub high_digit : (bytes : List ℕ) (i : ℕ) → i < length bytes → get_or (hex bytes) (2 * i) 0 ≡ hex_digit (get_or bytes i 0 / 16)
+unfolding hex
+high_digit [] i h = absurd (omega arith)
+high_digit (b ∷ bs) zero h = refl
+high_digit (b ∷ bs) (suc i) h =
+    let place : 2 * suc i ≡ suc (suc (2 * i)) = omega arith in
+    rw place (high_digit bs i (omega arith))
+
+pub low_digit : (bytes : List ℕ) (i : ℕ) → i < length bytes → get_or (hex bytes) (2 * i + 1) 0 ≡ hex_digit (get_or bytes i 0 % 16)
+unfolding hex
+low_digit [] i h = absurd (omega arith)
+low_digit (b ∷ bs) zero h = refl
+low_digit (b ∷ bs) (suc i) h =
+    let place : 2 * suc i + 1 ≡ suc (suc (2 * i + 1)) = omega arith in
+    rw place (low_digit bs i (omega arith))
 
 -- one byte more is two digits more
 pub hex-more : (bytes : List ℕ) (i : ℕ) → i < length bytes
@@ -98,3 +115,12 @@ bytes_in None = []
 pub said-bytes : (m : Option (List ℕ)) → meant m ≡ true → m ≡ Some (bytes_in m)
 said-bytes (Some bytes) e = refl
 said-bytes None e = cc
+
+pub record HexWord (word : List ℕ) : Type 0 where
+  pub said : hex_of word ≡ Some (bytes_in (hex_of word))
+  pub size : length word ≡ 2 * length (bytes_in (hex_of word))
+
+pub is_said : (word : List ℕ) {r : Bool} → r ≡ meant (hex_of word) → not r ≡ false → HexWord word
+is_said word {r} e f =
+    let said = said-bytes (hex_of word) (sym e ∙ not-false r f) in
+    record { said = said; size = half word said }

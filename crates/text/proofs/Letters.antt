@@ -6,6 +6,7 @@ use mathlib.Core.Path.{◌≡◌, refl, ap, ◌∙◌}
 use mathlib.Core.Bool.{Bool, true, false, cond, ◌&&◌}
 use lib.Dec.{leb, ltb}
 use borrow.Author.Tests.{le-leb, leb-true, ltb-true, ltb-false}
+use Rattle.wire.proofs.Tests.{both}
 use Rattle.text.specs.Text.{hex_digit}
 use Rattle.std.specs.Prelude.{Some, None}
 use Rattle.text.specs.Words.{among, hex_digit_of}
@@ -35,6 +36,19 @@ module _ (letter : ℕ) where
 
   pub no_digit : (48 ≤ letter → letter ≤ 57 → ⊥) → (65 ≤ letter → letter ≤ 70 → ⊥) → (97 ≤ letter → letter ≤ 102 → ⊥) → hex_digit_of letter ≡ None
   no_digit f g h = rw (among-out 48 57 letter f, among-out 65 70 letter g, among-out 97 102 letter h)
+
+  pub below-sixteen : {d : ℕ} → hex_digit_of letter ≡ Some d → d < 16
+  below-sixteen {d} e = go (among 48 57 letter) refl (among 65 70 letter) refl (among 97 102 letter) refl e
+    where
+      last_of : (first last : ℕ) → among first last letter ≡ true → letter ≤ last
+      last_of first last p = leb-true letter last (both (leb first letter) (leb letter last) p).1
+
+      go : (a : Bool) → among 48 57 letter ≡ a → (b : Bool) → among 65 70 letter ≡ b → (c : Bool) → among 97 102 letter ≡ c
+          → cond a (Some (letter - 48)) (cond b (Some (letter - 65 + 10)) (cond c (Some (letter - 97 + 10)) None)) ≡ Some d → d < 16
+      go true p b q c r e = let same : letter - 48 ≡ d = cc in omega (arith, last_of 48 57 p)
+      go false p true q c r e = let same : letter - 65 + 10 ≡ d = cc in omega (arith, last_of 65 70 q)
+      go false p false q true r e = let same : letter - 97 + 10 ≡ d = cc in omega (arith, last_of 97 102 r)
+      go false p false q false r e = cc
 
 -- the letter of a hex digit says that digit
 pub digit-again : (d : ℕ) → d < 16 → hex_digit_of (hex_digit d) ≡ Some d
