@@ -20,7 +20,7 @@ use Rattle.tlvs.proofs.Once.{once_found}
 use Rattle.action_frame.specs.Frames.{zero_frame}
 use Rattle.action_frame.proofs.Laid.{header-laid}
 use Rattle.promises.proofs.InFrames.{short-in-frame}
-use Rattle.promises.proofs.Refusing.{numbers-exactly, numbers_apart, no-channel, reader-offset, call-offset, reader-answers, call-answers, entry-answers, judgement-answers, refused-buffer, short-buffer}
+use Rattle.promises.proofs.Refusing.{numbers-exactly, numbers_apart, no-channel, reader-offset, call-offset, said-answers, told-answers, entry-answers, judgement-answers, refused-buffer, short-buffer}
 use Rattle.promises.specs.Demand1.{Demand1}
 
 pub demand1 : Demand1
@@ -46,26 +46,26 @@ demand1 =
       data-path-in-frame = short-in-frame data-path-laid.lawful;
       synchronization-in-frame = short-in-frame synchronization-lawful;
       channel-sequence-in-frame = short-in-frame channel-sequence-lawful;
-      readers = reader-answers;
-      calls = call-answers;
-      number = reader-answers 0;
-      address = reader-answers zero_address;
-      size = call-answers 0;
-      encoding = call-answers Simple;
-      corrected = call-answers 0;
-      consistency = call-answers false;
+      readers = said-answers;
+      calls = told-answers;
+      number = said-answers 0;
+      address = said-answers zero_address;
+      size = told-answers 0;
+      encoding = told-answers Simple;
+      corrected = told-answers 0;
+      consistency = told-answers false;
       entry = entry-answers;
-      sequence = reader-answers zero_sequence;
-      made = call-answers zero_sequence;
+      sequence = said-answers zero_sequence;
+      made = told-answers zero_sequence;
       judgement = judgement-answers;
-      proposal = call-answers 0;
-      load = call-answers 0;
-      head = reader-answers zero_head 0;
-      body = reader-answers zero_body;
-      data-path = reader-answers zero_data_path 0;
-      synchronization = reader-answers zero_synchronization 0;
-      channel-sequence = reader-answers zero_channel_sequence;
-      frame = reader-answers zero_frame 0;
+      proposal = told-answers 0;
+      load = told-answers 0;
+      head = said-answers zero_head 0;
+      body = said-answers zero_body;
+      data-path = said-answers zero_data_path 0;
+      synchronization = said-answers zero_synchronization 0;
+      channel-sequence = said-answers zero_channel_sequence;
+      frame = said-answers zero_frame 0;
       end = λ a b e. once_end e refl;
       found = λ a b e. once_found e refl;
       decimal = λ word a b p q. once_decimal p q;

@@ -20,7 +20,7 @@ use Rattle.channel_sequence.specs.Hops.{hop, zero_channel, said_entry}
 use Rattle.channel_sequence.specs.Outcomes.{reply_entry}
 use Rattle.channel_sequence.proofs.Once.{once_entry}
 use Rattle.channel_judge.specs.Outcomes.{judged_reply, reply_judgement}
-use Rattle.promises.specs.Answers.{refused_outcome, refused_reply, refused_judgement, Answering}
+use Rattle.promises.specs.Answers.{refused_outcome, refused_reply, refused_judgement, Once, Answering}
 
 -- the numbers that refusals have
 abbrev Given : ℕ → Type 0
@@ -100,11 +100,20 @@ pub call-offset : {A : Type 0} (nothing : A) (a : Answer A) → ¬ ((reply nothi
 call-offset nothing (answer a) other = refl
 call-offset nothing (refusal why) other = no-offset why other
 
-pub reader-answers : {A : Type 0} (nothing : A) (at : ℕ) → Answering said refused (outcome_of nothing at) (refused_outcome nothing)
-reader-answers nothing at = record { once = λ a b e. once_said e refl; refuses = λ a why e. ap (outcome nothing at) e }
+pub reader-answers : {T A : Type 0} (saying : T → Reading A) (nothing : A) (at : ℕ) → Once saying
+    → Answering saying refused (λ a. outcome nothing at (saying a)) (refused_outcome nothing)
+reader-answers saying nothing at only = record { once = only; refuses = λ a why e. ap (outcome nothing at) e }
 
-pub call-answers : {A : Type 0} (nothing : A) → Answering told refusal (reply_of nothing) (refused_reply nothing)
-call-answers nothing = record { once = λ a b e. once_told e refl; refuses = λ a why e. ap (reply nothing) e }
+pub call-answers : {T A : Type 0} (saying : T → Answer A) (nothing : A) → Once saying
+    → Answering saying refusal (λ a. reply nothing (saying a)) (refused_reply nothing)
+call-answers saying nothing only = record { once = only; refuses = λ a why e. ap (reply nothing) e }
+
+-- so of the answers of the code
+pub said-answers : {A : Type 0} (nothing : A) (at : ℕ) → Answering said refused (outcome_of nothing at) (refused_outcome nothing)
+said-answers nothing at = reader-answers said nothing at (λ a b e. once_said e refl)
+
+pub told-answers : {A : Type 0} (nothing : A) → Answering told refusal (reply_of nothing) (refused_reply nothing)
+told-answers nothing = call-answers told nothing (λ a b e. once_told e refl)
 
 left : (s : List ℕ) (bytes : Answer (List ℕ)) (why : Refusal) → afterwards s bytes (refusal why) ≡ s
 left s (answer bytes) why = refl
@@ -119,7 +128,7 @@ pub short-buffer : (s : List ℕ) (at : ℕ) (bytes : List ℕ) (next : ℕ) (af
 short-buffer s at bytes next after p e = (p.place ∙ rw e, p.buffer ∙ rw e)
 
 pub entry-answers : Answering said_entry refusal reply_entry (refused_reply (hop zero_channel))
-entry-answers = record { once = λ a b e. once_entry e refl; refuses = λ a why e. ap (reply (hop zero_channel)) e }
+entry-answers = call-answers said_entry (hop zero_channel) (λ a b e. once_entry e refl)
 
 pub judgement-answers : Answering told refusal reply_judgement refused_judgement
 judgement-answers = record { once = λ a b e. once_told e refl; refuses = λ a why e. ap judged_reply e }
