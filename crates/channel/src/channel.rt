@@ -18,7 +18,7 @@ pub enum ChannelEncoding {
     OpClass,
 }
 
-// The one place that tells a listed encoding from any other.
+// The one place of the records that tells a listed encoding from any other.
 impl TryFrom<u8> for ChannelEncoding {
     type Error = Refusal;
 
@@ -74,14 +74,15 @@ pub struct LegacyFlags(pub u8);
 impl LegacyFlags {
     pub const KEEP: u8 = 0x3F;
 
-    // Bits without a name are dropped.
+    // Bits without a name are dropped, so it is no `From`.
     pub fn from_bits(bits: u8) -> LegacyFlags
         ensures { result.0 ≡ kept_flags bits }
     {
         LegacyFlags(bits & LegacyFlags::KEEP)
     }
 
-    // 1 is lower, 2 upper and 3 primary.
+    // 1 is lower, 2 upper and 3 primary. This and the next two are each the number of its two bits and no enum: 0 has no meaning
+    // and is answered too (`support_channel`, `channel_bandwidth`, `band`).
     pub fn support_channel(self) -> u8
         ensures { result ≡ support_channel self.0 }
     {
@@ -103,7 +104,8 @@ impl LegacyFlags {
     }
 }
 
-// The two bytes of an entry. A simple channel has one, and its second is 0.
+// The two bytes of an entry. A simple channel has one, and its second is 0. The encoding is the byte on the wire and no
+// `ChannelEncoding`: a record with one that is not listed can be asked too, and is refused with 5.
 #[derive(Clone, Copy, Debug, PartialEq, Eq, Hash, Default)]
 pub struct Channel {
     pub encoding: u8,

@@ -5,7 +5,8 @@ ghost use Rattle.channel_judge.specs.Judging.{judged, proposed, load_in};
 use crate::loads::Loads;
 use wire::Refusal;
 
-// Whether a channel is accepted to move to. The sequences are lent one behind the other, 33 bytes each: the encoding and the 32 bytes.
+// Whether a channel is accepted to move to. The sequences are lent one behind the other, 33 bytes each: the encoding and the 32
+// bytes. They are bytes, since a length that is no multiple of 33 is answered too. Both lists are lent as C lends them.
 pub fn judge(sequences: &[u8], permitted: &[u8], proposal: u8) -> Result<(), Refusal>
     ensures { told result ≡ judged sequences.now permitted.now proposal }
 {

@@ -58,7 +58,8 @@ impl Loads {
         Ok(())
     }
 
-    // The first of the channels with the smallest load. None is below it, so that a proposal is held against it alone.
+    // The first of the channels with the smallest load. None is below it, so that a proposal is held against it alone. A loop
+    // over `smaller` and no `min_by_key`, so that the edit last_of_equal_loads turns the one comparison that decides.
     pub(crate) fn least(&self, permitted: &[u8]) -> Result<u8, Refusal>
         ensures { told result ≡ proposed_by (load_by self.now) permitted.now }
     {
@@ -96,7 +97,8 @@ impl Loads {
         Ok(())
     }
 
-    // The sixteen entries of one sequence.
+    // The sixteen entries of one sequence. By number: how many bytes an entry has goes by the encoding, so that no one
+    // `chunks_exact` serves, and a simple sequence ends in its middle.
     fn count_sequence(&mut self, encoding: ChannelEncoding, bytes: &[u8])
         requires at_most { AtMost 1024 self.old }
         requires bytes_len { length bytes.now ≡ 32 }
@@ -115,7 +117,7 @@ impl Loads {
     }
 }
 
-// The channel that an entry stands for.
+// The channel that an entry stands for. `ChannelSequence::entry` would look the encoding up again for each of the sixteen.
 fn corrected_entry(encoding: ChannelEncoding, bytes: &[u8], n: usize) -> u8
     requires bytes_len { length bytes.now ≡ 32 }
     requires n_bound { n < 16 }

@@ -1,26 +1,24 @@
 -- How tests go over a list from the front, and how entries are put behind one another: what is left of the list decides, or is still to be put. When a sequence has a size, and what is written of it.
 -- Assumes nothing.
-use Prim.Native.Nat.{ℕ, zero, suc, ◌+◌, ◌-◌, ◌*◌, ◌≤◌, ◌<◌}
-use native.Mathlib.Nat.{add-zero, add_assoc, sub-zero, zero-sub, suc-sub-suc}
+use Prim.Native.Nat.{ℕ, suc, ◌+◌, ◌*◌, ◌≤◌, ◌<◌}
+use native.Mathlib.Nat.{add-zero, add_assoc}
 use native.Mathlib.Numerals.{add-one, add-two}
 use native.Mathlib.Omega.{arith}
 use mathlib.Core.Path.{◌≡◌, refl, sym, ap, ◌∙◌}
 use mathlib.Core.Bool.{Bool, true, false, ◌&&◌, and-true}
 use mathlib.Core.List.{List, [], ◌∷◌, ◌++◌, append_assoc, append-nil}
-use lib.Dec.{eqb}
 use lib.ListN.{length, get_or, take, drop, set, replicate, length-set, take-append-drop}
 use borrow.Author.Tests.{eqb-true, le-leb, lt-leb}
 use lib.Seq.{get_or-drop, drop-cons, drop-drop, take-suc-set, length-take-le}
 use Rattle.wire.specs.declared.refusal.Refusal.TheVariants.{LegacySequence}
 use Rattle.wire.specs.Answer.{Answer, answer, refusal}
-use Rattle.wire.specs.Writing.{Put, length_of}
-use Rattle.wire.proofs.Stores.{put_all}
+use Rattle.wire.specs.Writing.{length_of}
 use Rattle.channel.specs.declared.channel.ChannelEncoding.{ChannelEncoding}
 use Rattle.channel.specs.declared.channel.ChannelEncoding.TheVariants.{Simple, Legacy, OpClass}
 use Rattle.channel_sequence.specs.declared.channel_sequence.ChannelSequence.{ChannelSequence}
 use Rattle.channel.specs.Channels.{encoding_of, entry_size}
 use Rattle.channel_sequence.specs.Hops.{entry_channel}
-use Rattle.channel_sequence.specs.Sequences.{all_zero, flags_fit, all_flags_fit, padded, is_legacy, size_of, bytes_of, consistent_bytes}
+use Rattle.channel_sequence.specs.Sequences.{flags_fit, all_flags_fit, padded, is_legacy, size_of, bytes_of, consistent_bytes}
 
 -- what stands from a place on begins with the byte there, and with the two there
 one_at : (s : List ℕ) (i : ℕ) → i < length s → drop i s ≡ get_or s i 0 ∷ drop (i + 1) s
@@ -30,9 +28,6 @@ pub two_at : (s : List ℕ) (i : ℕ) → i + 1 < length s → drop i s ≡ get_
 two_at s i h =
     let second : drop (i + 1) s ≡ get_or s (i + 1) 0 ∷ drop (i + 2) s = rw (drop-cons s (i + 1) 0 h, add-one i, add-two i) in
     rw (one_at s i (omega arith), second)
-
-pub zero-step : (s : List ℕ) (i : ℕ) → i < length s → all_zero (drop i s) ≡ eqb (get_or s i 0) 0 && all_zero (drop (i + 1) s)
-zero-step s i h = rw (one_at s i h)
 
 -- and so for flags, in front of the entries behind their own
 first-flags : (flags : ℕ) (behind : List ℕ) → all_flags_fit (flags ∷ behind) ≡ flags_fit flags && all_flags_fit (drop 1 behind)
@@ -81,15 +76,6 @@ entry-step s i a b rest h =
     let both : take (i + 2) (set t (i + 1) b) ≡ take (i + 1) t ++ (b ∷ []) =
     rw (add-two i, add-one i) (take-suc-set t (suc i) b (simp length-set (omega arith))) in
     rw (both, first) (simp append_assoc)
-
-zeros-behind : (n k : ℕ) → drop {A = ℕ} k (replicate n 0) ≡ replicate (n - k) 0
-zeros-behind n zero = rw (sub-zero n)
-zeros-behind zero (suc k) = rw (zero-sub (suc k))
-zeros-behind (suc n) (suc k) = zeros-behind n k ∙ rw (suc-sub-suc n k)
-
--- bytes that were put over 32 zeros are padded
-pub padded-over : {part : List ℕ} {next : ℕ} {t : List ℕ} → length part ≤ 32 → Put (replicate 32 0) 0 part next t → t ≡ padded part
-padded-over {part} h p = (put_all p h).1 ∙ ap (λ (z : List ℕ). part ++ z) (zeros-behind 32 (length part))
 
 -- sixteen bytes in front of zeros are padded, and so are 32 bytes
 pub padded-half : (bytes : List ℕ) → length bytes ≡ 32 → drop 16 bytes ≡ replicate 16 0 → padded (take 16 bytes) ≡ bytes

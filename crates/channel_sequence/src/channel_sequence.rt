@@ -12,7 +12,8 @@ use crate::conversion::simple_of;
 use channel::{Channel, ChannelEncoding, LegacyFlags};
 use wire::Refusal;
 
-// Sixteen entries in one encoding. In a consistent sequence the bytes that the encoding does not use are 0.
+// Sixteen entries in one encoding. In a consistent sequence the bytes that the encoding does not use are 0. The encoding is the
+// byte on the wire and no `ChannelEncoding`: a record with one that is not listed can be asked too, and is refused with 5.
 #[derive(Clone, Copy, Debug, PartialEq, Eq, Hash, Default)]
 pub struct ChannelSequence {
     pub encoding: u8,
@@ -137,7 +138,8 @@ fn entry_in(known: ChannelEncoding, encoding: u8, bytes: &[u8; 32], n: usize) ->
     }
 }
 
-// Entry by entry, the flags lose the bits without a name.
+// Entry by entry, the flags lose the bits without a name. By index: behind a borrow by `chunks_exact_mut` a proof knows how long
+// the entries are, and not what stands in them.
 fn keep_flags(entries: &mut [u8; 32])
     ensures { entries.new ≡ kept_entries entries.old }
 {
@@ -173,6 +175,7 @@ fn all_flags_fit(entries: &[u8]) -> bool
         .all(|flags| *flags <= LegacyFlags::KEEP)
 }
 
+// The two bytes are passed without their encoding, which is known here and no longer a number.
 fn consistent_entry(known: ChannelEncoding, first: u8, second: u8) -> bool
     ensures { result ≡ consistent_entry known first second }
 {

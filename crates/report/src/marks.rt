@@ -13,7 +13,7 @@ use data_path_state::DataPathStateTLV;
 use synchronization_parameters::SynchronizationParametersTLV;
 use tlvs::{Item, Step};
 
-// A place in a report, from which a caller goes on.
+// A place in a report, from which a caller goes on. `End` is a mark too, so that the last line has one behind it as every other.
 #[derive(Clone, Copy, Debug, PartialEq, Eq, Hash)]
 pub enum Mark {
     // The one line of an input that is too long.
@@ -22,7 +22,8 @@ pub enum Mark {
     Frame,
     // A place of the tail, with the number of items before it.
     Item(usize, usize),
-    // The value of an item, with the place behind it and the number of items up to there.
+    // The value of an item, with the place behind it and the number of items up to there. The two cases hold the same and are no
+    // struct: the statements and `ask` name each by its case.
     DataPath(Item, usize, usize),
     Synchronization(Item, usize, usize),
     // Behind the last line.
@@ -111,7 +112,8 @@ fn item_line(tail: &[u8], at: usize, items: usize, out: &mut [u8; 128]) -> Optio
     }
 }
 
-// The line at a mark, from the start of the lent buffer, which is as long as any line: how many bytes it has, and the mark behind it.
+// The line at a mark, from the start of the lent buffer, which is as long as any line: how many bytes it has, and the mark behind
+// it. A line of its own would need a heap.
 pub fn next_line(frame: &[u8], mark: Mark, out: &mut [u8; 128]) -> Option<(usize, Mark)>
     ensures { Shows out.old (stands_at frame.now mark) result out.new }
 {

@@ -5,6 +5,7 @@ ghost use Rattle.text.specs.Words.{digits_of, in64_bits, decimal_of};
 
 use wire::put_slice;
 
+// A `u8` has no `From<u64>`, and `try_from` would have a refusal that cannot come.
 fn digit(d: u64) -> u8
     requires { d < 10 }
     ensures { result ≡ 48 + d }

@@ -17,6 +17,7 @@ fn digit(d: u8) -> u8
     }
 }
 
+// Two functions, this one and the next, so that the edit digits_turned_round turns one of them.
 fn high_digit(byte: u8) -> u8
     ensures { result ≡ hex_digit (byte / 16) }
 {
@@ -29,7 +30,8 @@ fn low_digit(byte: u8) -> u8
     digit(byte % 16)
 }
 
-// Two digits for each byte. Where they do not fit, the buffer and the place stay as they are.
+// Two digits for each byte. Where they do not fit, the buffer and the place stay as they are. They are put by hand for the reason
+// of `put_decimal`.
 pub fn put_hex(buf: &mut [u8], at: usize, bytes: &[u8]) -> usize
     ensures { Put buf.old at (hex bytes.now) result buf.new }
 {
@@ -69,7 +71,7 @@ fn byte_of(high: u8, low: u8) -> Option<u8>
     Some(digit_of(high)? * 16 + digit_of(low)?)
 }
 
-// Whether a word is bytes in hex: an even number of digits.
+// Whether a word is bytes in hex: an even number of digits. `chunks_exact(2).all(..)` was tried, and its proof did not close.
 fn is_hex(word: &[u8]) -> bool
     ensures { result ≡ meant (hex_of word.now) }
 {

@@ -7,7 +7,8 @@ pub struct Item {
     pub length: usize,
 }
 
-// What stands at a place of the tail.
+// What stands at a place of the tail. It is no `Result` of an `Option`: the end of the tail and a cut are two answers, and
+// neither is a refusal (`step_at`).
 #[derive(Clone, Copy, Debug, PartialEq, Eq, Hash)]
 pub enum Step {
     // An item, and the place behind its value.
@@ -18,7 +19,7 @@ pub enum Step {
     Cut(usize),
 }
 
-// How the walk ends.
+// How the walk ends. It is no `Result`: a cut is an answer here too, and no refusal (`end_report`).
 #[derive(Clone, Copy, Debug, PartialEq, Eq, Hash)]
 pub enum End {
     // At the end of the tail, after so many items.

@@ -85,11 +85,11 @@ placed n s at {next} e = go (leb (at + n) (length s)) refl
           size = rw many (length-take-le n (drop at s) (simp length-drop (omega arith)));
           whole = rw (q, many, place);
         }
-    go false q = absurd (let e' = rw q at e in let z : ◌≡◌ {A = ℕ} 0 1 = cc in omega arith)
+    go false q = absurd (cc (rw q at e))
 
 -- a reading whose place was refused is that refusal
 pub unplaced : {A : Type 0} (r : Reading A) {why : Refusal} → refusal why ≡ place_of r → r ≡ refused why
-unplaced (read a next) e = absurd (let z : ◌≡◌ {A = ℕ} 0 1 = cc in omega arith)
+unplaced (read a next) e = absurd cc
 unplaced (refused why) e = cc
 
 -- a size that fits a room is the size itself, and one that is refused is refused by the room too
@@ -101,8 +101,8 @@ within-room room (answer m) {n} e = go (leb m room) refl
         let e' = rw q at e in
         let same : m ≡ n = cc in
         (ap answer same, rw same at (leb-true m room q))
-    go false q = absurd (let e' = rw q at e in let z : ◌≡◌ {A = ℕ} 0 1 = cc in omega arith)
-within-room room (refusal why) e = absurd (let z : ◌≡◌ {A = ℕ} 0 1 = cc in omega arith)
+    go false q = absurd (cc (rw q at e))
+within-room room (refusal why) e = absurd cc
 
 -- a size that is known beforehand
 pub known-room : (room size : ℕ) {n : ℕ} → answer n ≡ within room (answer size) → (size ≡ n) × (n ≤ room)

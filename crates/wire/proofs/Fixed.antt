@@ -1,14 +1,12 @@
 -- Formats that begin with fields of fixed widths: where one of these does not fit, the reader refuses, and that goes by the widths alone.
 -- Assumes nothing.
-use Prim.Native.Nat.{ℕ, suc, ◌+◌, ◌<◌}
-use native.Mathlib.Numerals.{add-one}
+use Prim.Native.Nat.{ℕ, ◌+◌, ◌<◌}
 use native.Mathlib.Omega.{arith}
 use mathlib.Core.Path.{◌≡◌, refl}
-use mathlib.Core.Bool.{Bool, true, false, cond}
+use mathlib.Core.Bool.{Bool, true, false}
 use mathlib.Core.List.{List, [], ◌∷◌}
 use lib.Dec.{leb}
-use lib.ListN.{length, get_or, take, drop}
-use lib.Seq.{drop-cons}
+use lib.ListN.{length}
 use borrow.Author.Tests.{lt-leb}
 use Rattle.wire.specs.declared.refusal.Refusal.{Refusal}
 use Rattle.wire.specs.declared.refusal.Refusal.TheVariants.{Short}
@@ -28,19 +26,6 @@ abbrev pub ◌then◌ : Answer ℕ → (ℕ → Answer ℕ) → Answer ℕ
 abbrev pub past : List ℕ → List ℕ → ℕ → Answer ℕ
 past [] s at = answer at
 past (n ∷ ns) s at = place_of (field n s at) then past ns s
-
--- the widths from the ith on, for code that goes over them: a field that was refused is the first, and behind one that was read it goes on
-abbrev short_from : List ℕ → List ℕ → ℕ → ℕ → Answer ℕ → ℕ
-short_from ns s at i (answer next) = first_short (drop (i + 1) ns) s next
-short_from ns s at i (refusal why) = at
-
-pub short-step : (ns : List ℕ) (s : List ℕ) (at i : ℕ) {place : Answer ℕ} → i < length ns → place_of (field (get_or ns i 0) s at) ≡ place
-    → first_short (drop i ns) s at ≡ short_from ns s at i place
-short-step ns s at i {place} h e = rw (drop-cons ns i 0 h, ← e) (go (leb (at + get_or ns i 0) (length s)))
-  where
-    go : (b : Bool) → cond b (first_short (drop (suc i) ns) s (at + get_or ns i 0)) at ≡ short_from ns s at i (place_of (cond b (read (take (get_or ns i 0) (drop at s)) (at + get_or ns i 0)) (refused (Short at))))
-    go true = rw (add-one i)
-    go false = refl
 
 -- fields that do not all stand within are short at the first one that does not
 pub past-short : (n : ℕ) (ns : List ℕ) (s : List ℕ) (at : ℕ) → length s < at + total (n ∷ ns)
@@ -71,7 +56,7 @@ pub record Begins {A : Type 0} (r : Reader A) (widths : List ℕ) : Type 1 where
   pub refuses : (s : List ℕ) (at : ℕ) (why : Refusal) → past widths s at ≡ refusal why → r s at ≡ refused why
 
 pub begins-any : {A : Type 0} {r : Reader A} → Lawful r → Begins r []
-begins-any l = record { lawful = l; refuses = λ s at why e. absurd (let z : ◌≡◌ {A = ℕ} 0 1 = cc in omega arith) }
+begins-any l = record { lawful = l; refuses = λ s at why e. absurd cc }
 
 pub begins-field : {A B : Type 0} {m : Reader A} {f : A → Reader B} {n : ℕ} {ns : List ℕ}
     → OneField m n → ((a : A) → Begins (f a) ns) → Begins (m >>= f) (n ∷ ns)

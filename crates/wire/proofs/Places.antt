@@ -18,7 +18,7 @@ use Rattle.wire.proofs.Bytes.{PlacedField, from, field-whole}
 -- a reading that has no value but its place is that place
 pub passed : (r : Reading (Unit {0})) {next : ℕ} → answer next ≡ place_of r → r ≡ read tt next
 passed (read a place) {next} e = let same : next ≡ place = cc in ap (read tt) (sym same)
-passed (refused why) e = absurd (let z : ◌≡◌ {A = ℕ} 0 1 = cc in omega arith)
+passed (refused why) e = absurd cc
 
 -- a field whose place was given begins with the byte at its start
 pub begins : {n : ℕ} {s : List ℕ} {at next : ℕ} → PlacedField (suc n) s at next → field (suc n) s at ≡ read (get_or s at 0 ∷ from s at 1 n) next

@@ -4,24 +4,18 @@ use Prim.Native.Nat.{ℕ, zero, suc, ◌+◌, ◌-◌, ◌≤◌, ◌<◌}
 use native.Mathlib.Nat.{add-zero, zero-add, add_assoc, add-suc, suc-add}
 use native.Mathlib.Omega.{arith}
 use mathlib.Core.Path.{◌≡◌, refl, sym, ap, ◌∙◌}
-use mathlib.Core.Bool.{Bool, true, false, cond}
+use mathlib.Core.Bool.{Bool, true, false}
 use mathlib.Core.List.{List, [], ◌++◌, append_assoc, append-nil}
 use lib.Dec.{leb}
 use lib.ListN.{length, get_or, set, take, drop, length-append, length-take, length-drop, take-append-drop}
 use lib.Seq.{paste, paste-zero, paste-suc, take-length, take_at, drop-append-add, drop-drop}
-use borrow.Author.Tests.{le-leb, lt-leb, leb-true, leb-false}
+use borrow.Author.Tests.{le-leb, leb-true, leb-false}
 use Rattle.std.specs.Prelude.{Result, Ok, Err}
 use Rattle.wire.specs.declared.refusal.Refusal.{Refusal}
 use Rattle.wire.specs.Answer.{Answer, answer, refusal, ◌>>=◌}
 use Rattle.wire.specs.Said.{told}
 use Rattle.wire.specs.Writing.{fits, Put, PutIfRoom, within, length_of, Wrote}
 use Rattle.wire.proofs.Bytes.{within-room}
-
-pub put-none : (s : List ℕ) (at : ℕ) (bytes : List ℕ) → length s - at < length bytes → Put s at bytes at s
-put-none s at bytes h =
-    let past : length s < at + length bytes = omega arith in
-    let full : fits s at bytes ≡ false = lt-leb (at + length bytes) (length s) past in
-    record { place = rw full; buffer = rw full }
 
 -- the whole of a slice, copied byte after byte
 pub put-pasted : (s : List ℕ) (at : ℕ) (bytes : List ℕ) → length bytes ≤ length s - at
@@ -152,12 +146,6 @@ pub ◌and-then◌ : {s : List ℕ} {at : ℕ} {xs : List ℕ} {mid : ℕ} {t ys
     let laid = put-fits first (omega arith) in
     put_then first (q (omega arith)) (omega arith)
 
--- two runs of a field that is there or is not
-pub run-both : (present : Bool) (xs ys : List ℕ) {s : List ℕ} {at mid : ℕ} {t : List ℕ} {next : ℕ} {u : List ℕ}
-    → PutIfRoom s at (cond present xs []) mid t → PutIfRoom t mid (cond present ys []) next u → PutIfRoom s at (cond present (xs ++ ys) []) next u
-run-both true xs ys p q = p and-then q
-run-both false xs ys p q = p and-then q
-
 -- from the start on, with each run at its own place
 infixl 20 ◌also◌
 pub ◌also◌ : {s xs : List ℕ} {mid : ℕ} {t ys : List ℕ} {next : ℕ} {u : List ℕ}
@@ -170,7 +158,7 @@ pub ◌also◌ : {s xs : List ℕ} {mid : ℕ} {t ys : List ℕ} {next : ℕ} {u
 -- a size of something behind a front of so many bytes
 pub size-behind : (front : ℕ) (size : Answer ℕ) {n : ℕ} → (size >>= λ m. answer (front + m)) ≡ answer n → (m : ℕ) × (size ≡ answer m) × (front + m ≡ n)
 size-behind front (answer m) e = (m, refl, cc)
-size-behind front (refusal why) e = absurd (let z : ◌≡◌ {A = ℕ} 0 1 = cc in omega arith)
+size-behind front (refusal why) e = absurd cc
 
 pub length-behind : (front : List ℕ) (bytes : Answer (List ℕ)) {size : Answer ℕ} → length_of bytes ≡ size
     → length_of (bytes >>= λ b. answer (front ++ b)) ≡ (size >>= λ m. answer (length front + m))

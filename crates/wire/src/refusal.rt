@@ -62,7 +62,8 @@ impl Refusal {
     }
 
     // Only a reader that is short has one, and all others have 0. Of a header it is an offset of the frame; of an item's value
-    // `AWDLActionFrame::offset_in_frame` makes one.
+    // `AWDLActionFrame::offset_in_frame` makes one. It is 0 and no `Option`: `outcome` and `reply` promise the offset 0 behind
+    // every other refusal, and callers in C are told it.
     pub fn offset(self) -> usize
         ensures { result ≡ offset_of self }
     {
@@ -72,7 +73,8 @@ impl Refusal {
         }
     }
 
-    // Our own proposal beside the refusal of another. Nothing else that is refused has a channel, and all others have 0.
+    // Our own proposal beside the refusal of another. Nothing else that is refused has a channel, and all others have 0, and no
+    // `None`, for the same reason (`carried_channel`).
     pub fn channel(self) -> u8
         ensures { result ≡ carried_channel self }
     {

@@ -9,7 +9,8 @@ use crate::read::field_at;
 use crate::refusal::Refusal;
 use crate::write::put_slice;
 
-// A value that is read from a place of a slice, and put at one, in one way.
+// A value that is read from a place of a slice, and put at one, in one way. The slice and the place are two parameters and no
+// cursor, of which a contract would have to say the state before and after each field, on a refusal too.
 pub trait Wire: Copy {
     ghost format: { Reader Self };
 
@@ -76,6 +77,7 @@ impl Wire for u32 {
 }
 
 // Six bytes in the order of the wire. Their number is a part of the type, so that no law of a record's size has to ask for it.
+// The bytes are named where they are taken apart: a `From` to and from `[u8; 6]` would name them again.
 #[derive(Clone, Copy, Debug, PartialEq, Eq, Hash, Default)]
 pub struct MACAddress(pub u8, pub u8, pub u8, pub u8, pub u8, pub u8);
 
