@@ -36,9 +36,6 @@ pub struct SynchronizationParametersTLV {
 // The bytes in front of the sequence.
 const FIXED_SIZE: usize = 33;
 
-// The bytes in front of its entries.
-const HEAD_SIZE: usize = 6;
-
 // How many of the fixed bytes each field takes. The mode and its reserved byte are one.
 const WIDTHS: [u8; 18] = [1, 2, 1, 1, 2, 2, 2, 2, 2, 2, 1, 1, 1, 1, 6, 2, 2, 2];
 
@@ -113,7 +110,7 @@ impl SynchronizationParametersTLV {
         let head = self.channel_sequence.head();
         let at = wire::put_slice(buf, at, &head);
         let sequence = self.channel_sequence.channel_sequence;
-        wire::put_slice(buf, at, &sequence.bytes[..n - FIXED_SIZE - HEAD_SIZE]);
+        wire::put_slice(buf, at, &sequence.bytes[..n - FIXED_SIZE - head.len()]);
         Ok(n)
     }
 

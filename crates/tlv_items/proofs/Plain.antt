@@ -1,4 +1,4 @@
--- A step in the words of the scope, by the bytes themselves: the reader of an item is short where fewer than 3 bytes are left or the length is above what follows, and nowhere else.
+-- A step in the words of the scope, by the bytes themselves: where 3 bytes are left, the reader of an item is short where the length is above what follows, and nowhere else.
 -- Assumes nothing.
 use Prim.Native.Nat.{ℕ, ◌+◌, ◌*◌, ◌-◌, ◌≤◌, ◌<◌}
 use native.Mathlib.Omega.{arith}
