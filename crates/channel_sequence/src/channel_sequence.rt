@@ -195,6 +195,7 @@ fn repeated(known: ChannelEncoding, first: u8, second: u8) -> [u8; 32]
     }
 }
 
+// This one fills half of the bytes and the next all of them: over the bytes of an entry it is a loop for both, and no plainer.
 #[tactic(auto, unfolding(crate::specs::Sequences::times))]
 fn singles(channel: u8) -> [u8; 32]
     ensures { result ≡ padded (times 16 (channel ∷ [])) }
@@ -204,6 +205,7 @@ fn singles(channel: u8) -> [u8; 32]
     bytes
 }
 
+// By index, as `keep_flags`.
 fn pairs(first: u8, second: u8) -> [u8; 32]
     ensures { result ≡ padded (times 16 (first ∷ second ∷ [])) }
 {

@@ -6,7 +6,8 @@ use crate::channel_sequence::ChannelSequence;
 use channel::{Channel, ChannelEncoding, LegacyFlags};
 use wire::Refusal;
 
-// The channels of sixteen legacy entries as a simple sequence.
+// The channels of sixteen legacy entries as a simple sequence. By index: over `chunks_exact(2).enumerate()` the loop's invariant
+// would have to say where the iterator stands, and here it goes by `i` alone.
 pub(crate) fn simple_of(entries: &[u8; 32]) -> Result<ChannelSequence, Refusal>
     ensures { told result ≡ simple_of entries.now }
 {
