@@ -10,8 +10,9 @@ use crate::fields::{CountryCode, InfraBssidChannel};
 use data_path_words::{DataPathChannel, DataPathExtendedFlags, DataPathStats, UnicastOptions};
 use wire::{MACAddress, Refusal, Wire};
 
-// A field that may be missing: a flag beside its value, which is zero where the field is missing. It is no `Option`, since a caller of
-// the record may lay down any value beside a flag that is false, and whether a record is consistent is asked of just such values.
+// A field that may be missing: a flag beside its value, which is zero where the field is missing. It is no `Option`, since a
+// caller of the record may lay down any value beside a flag that is false, and whether a record is consistent is asked of just
+// such values (`DataPathStateTLV::consistent`, `absent_zero`).
 #[derive(Clone, Copy, Debug, PartialEq, Eq, Hash, Default)]
 pub struct Optional<T> {
     pub present: bool,

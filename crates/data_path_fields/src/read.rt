@@ -77,6 +77,7 @@ fn options_and_ext(s: &[u8], at: usize, has_ext: bool) -> Result<(Unicast, usize
     Ok((Unicast { options, ext }, at))
 }
 
+// As `read_extended`: a function for both would take the reader as a closure, which is no plainer for two.
 fn read_unicast(s: &[u8], at: usize, present: bool) -> Result<(Unicast, usize), Refusal>
     ensures { said result ≡ when present D.no_unicast D.unicast s.now at }
 {

@@ -103,6 +103,8 @@ impl DataPathExtendedFlags {
     }
 }
 
+// This word, a `DataPathChannel` and `UnicastOptions` are each read as the number that they are, which is then turned into the
+// word: two lines for each, and with a trait for the three they would be no fewer.
 impl Wire for DataPathExtendedFlags {
     ghost format = { extended_word };
 

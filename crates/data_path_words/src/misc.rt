@@ -85,6 +85,7 @@ impl From<DataPathChannel> for u16 {
     }
 }
 
+// By hand, since only a case without a value can be derived as the default.
 impl Default for DataPathChannel {
     ghost is_default = { λ channel. channel ≡ zero_channel };
 
@@ -165,10 +166,13 @@ impl UnicastOptions {
     // What `from_bits` keeps, told from the other side: all but bits 0, 2, 4, 7 and 8, which have no name.
     pub const KEEP: u32 = !(1 << 0 | 1 << 2 | 1 << 4 | 1 << 7 | 1 << 8);
 
-    // It stands beside `DataPathExtendedFlags::from_bits` and in no trait with it: but for `bits & mask` they differ in all that they say.
+    // It stands beside `DataPathExtendedFlags::from_bits` and in no trait with it: but for `bits & mask` they differ in all that
+    // they say. Neither is a `From`: bits are dropped, and the Rust's own name is `from_bits`.
     pub fn from_bits(bits: u32) -> UnicastOptions
         ensures { result.0 ≡ word_by options_kept bits }
     {
+        // The names are written out once more and `KEEP` is not taken, so that the edits option_left_out and options_kept_whole
+        // turn the mask that is used.
         let keep = UnicastOptions::START_AIRPLAY
             | UnicastOptions::CACHE_REQUEST
             | UnicastOptions::JUMPSTART_DFS_PROXY

@@ -1,3 +1,4 @@
+// The calls of the channel sequence record. Numbers that fit are narrowed by `as` (`fit`).
 ghost use Rattle.std.specs.Prelude.{◌≡◌, refl, true, ◌+◌, ◌≤◌, length, get_or};
 ghost use Rattle.wire.specs.Said.{told};
 ghost use Rattle.wire.specs.Outcomes.{outcome, reply};
@@ -17,6 +18,7 @@ use crate::told::{tell, tell_flag, tell_read};
 use channel_sequence_tlv::ChannelSequenceTLV;
 use wire::Refusal;
 
+// The largest number of each field, at its place among the numbers that C lends.
 const LARGEST: [u32; 36] = [
     255, 255, 65535, 255, 255, 255, 255, 255, 255, 255, 255, 255, 255, 255, 255, 255, 255, 255,
     255, 255, 255, 255, 255, 255, 255, 255, 255, 255, 255, 255, 255, 255, 255, 255, 255, 255,
@@ -94,6 +96,8 @@ pub(crate) fn channel_sequence_into(
     }
 }
 
+// As the other two `*_told`: each record has its own table, its own place of the sequence and its own count of bytes in front of
+// the entries, and as one function these would be parameters.
 fn channel_sequence_told(numbers: &[u32; 36]) -> Result<usize, Refusal>
     ensures { told result ≡ length_of (channel_sequence_bytes numbers.now) }
 {

@@ -9,7 +9,7 @@ ghost use Rattle.exports.specs.Told.{ToldReading, ToldNumber, ToldRecord, ToldWr
 
 use crate::data_path_reading::data_path_into;
 use crate::lent::Lent;
-use crate::told::{tell, tell_read, tell_record};
+use crate::told::{tell, tell_flag, tell_read, tell_record};
 use data_path_state::DataPathStateTLV;
 use wire::Refusal;
 
@@ -35,7 +35,7 @@ pub fn awdl_data_path_consistent(numbers: &[u32; 44], consistent: &mut u32) -> u
     ensures { ToldNumber (reply 0 (data_path_consistent numbers.now)) result consistent.new }
 {
     let held = DataPathStateTLV::held(numbers);
-    tell(held.map(|d| u32::from(d.consistent())), 0, consistent)
+    tell_flag(held.map(|d| d.consistent()), consistent)
 }
 
 pub fn awdl_data_path_mend(numbers: &[u32; 44], mended: &mut [u32; 44]) -> u32

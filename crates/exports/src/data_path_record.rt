@@ -10,6 +10,7 @@ use data_path_state::DataPathStateTLV;
 use data_path_words::DataPathFlags;
 use wire::Refusal;
 
+// The largest number of each field, at its place among the numbers that C lends.
 const LARGEST: [u32; 44] = [
     65535, 1, 255, 255, 255, 1, 1, 65535, 1, 255, 255, 255, 255, 255, 255, 65535, 1, 255, 255, 255,
     255, 255, 255, 1, 255, 255, 255, 255, 255, 255, 1, 4294967295, 1, 4294967295, 1, 65535, 1,
@@ -53,6 +54,7 @@ impl Lent<44> for DataPathStateTLV {
     ghost zeros = { refl };
 }
 
+// Numbers that fit are narrowed by `as` (`fit`).
 fn data_path_of(numbers: &[u32; 44]) -> DataPathStateTLV
     requires { data_path_fits numbers.now ≡ true }
     ensures { result ≡ data_path_of numbers.now }

@@ -1,4 +1,5 @@
-// The values of a data path record's fields among its numbers: each is laid down from a place on, and taken from there.
+// The values of a data path record's fields among its numbers: each is laid down from a place on, and taken from there. Numbers
+// that fit are narrowed by `as` (`fit`).
 ghost use Rattle.std.specs.Prelude.{◌≡◌, true, ℕ, ◌+◌, ◌≤◌, ◌<◌, List, set};
 ghost use Rattle.wire.specs.Reading.{when};
 ghost use Rattle.exports.specs.Held.{flag_number};
@@ -14,6 +15,8 @@ use data_path_words::{
 };
 use wire::{MACAddress, Refusal, Wire};
 
+// As `Lent`, for the values of fields: each goes to a place among the numbers, so that it is no conversion. The place is a number
+// and no const parameter, so each clause says that the field ends within.
 pub(crate) trait Numbered: Wire {
     ghost width: { ℕ };
 
@@ -175,6 +178,7 @@ impl Numbered for DataPathChannel {
     }
 }
 
+// C is lent the kind of a channel as a number: 0 is a single one and 1 a map.
 fn kind_of(channel: DataPathChannel) -> u32
     ensures { result ≡ kind_of channel }
 {
@@ -227,11 +231,11 @@ impl Numbered for UnicastOptions {
     ghost value_at = { options_at };
 
     fn lay(self, numbers: &mut [u32; 44], i: usize) {
-        numbers[i] = self.0;
+        self.0.lay(numbers, i);
     }
 
     fn take(numbers: &[u32; 44], i: usize) -> UnicastOptions {
-        UnicastOptions(numbers[i])
+        UnicastOptions(u32::take(numbers, i))
     }
 }
 
@@ -245,11 +249,11 @@ impl Numbered for DataPathExtendedFlags {
     ghost value_at = { extended_at };
 
     fn lay(self, numbers: &mut [u32; 44], i: usize) {
-        numbers[i] = u32::from(self.0);
+        self.0.lay(numbers, i);
     }
 
     fn take(numbers: &[u32; 44], i: usize) -> DataPathExtendedFlags {
-        DataPathExtendedFlags(numbers[i] as u16)
+        DataPathExtendedFlags(u16::take(numbers, i))
     }
 }
 

@@ -1,3 +1,4 @@
+// The calls of the action frame. Numbers that fit are narrowed by `as` (`fit`).
 ghost use Rattle.std.specs.Prelude.{◌≡◌, refl};
 ghost use Rattle.wire.specs.Said.{told};
 ghost use Rattle.wire.specs.Outcomes.{outcome};

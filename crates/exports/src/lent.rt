@@ -7,7 +7,8 @@ ghost use Rattle.exports.specs.Held.{fits, held_byte};
 
 use wire::Refusal;
 
-// A record that is lent as numbers, in the order of its fields.
+// A record that is lent as numbers, in the order of its fields. It is no `From` and `TryFrom`: those would be two impls for each
+// record, and neither has the zero record, which `tell_record` speaks of beside the numbers.
 pub(crate) trait Lent<const N: usize>: Copy {
     ghost numbers_of: { Self → List ℕ };
 
@@ -25,8 +26,9 @@ pub(crate) trait Lent<const N: usize>: Copy {
     ghost zeros: { numbers_of zero ≡ replicate N 0 };
 }
 
-// Whether each number is one that its field holds. Every number is looked at, so that the compiler may look at several at once; and they are
-// narrowed by `as` afterwards, since `try_from` would look at each again.
+// Whether each number is one that its field holds. Every number is looked at, so that the compiler may look at several at once;
+// and they are narrowed by `as` afterwards, since `try_from` would look at each again. That they fit stands in the clauses of
+// those who narrow them, and in no type: parts of a record's numbers are narrowed too, each by its own part of the table.
 pub(crate) fn fit(numbers: &[u32], largest: &[u32]) -> Result<(), Refusal>
     requires { length numbers.now ≡ length largest.now }
     ensures { told result ≡ require (fits numbers.now largest.now) Inconsistent }

@@ -1,6 +1,7 @@
-// The calls for other languages, flat: numbers, lent slices, and a record as a lent array of numbers. A call answers 0 or the number of its
-// refusal, but for the gap, the step and the searches, which refuse nothing; it sets every place that was lent to it for an answer. What is
-// asked often is read straight into the numbers, and written straight from them; everything else is asked of the crates below.
+// The calls for other languages, flat: numbers, lent slices, and a record as a lent array of numbers. A call answers 0 or the
+// number of its refusal, but for the gap, the step and the searches, which refuse nothing; it sets every place that was lent to
+// it for an answer. What is asked often is read straight into the numbers, and written straight from them; everything else is
+// asked of the crates below. Each record has calls of its own with C's names, so that some are alike but for the record.
 #![tactic(auto)]
 
 mod channel_sequence_calls;

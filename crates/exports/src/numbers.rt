@@ -1,4 +1,6 @@
-// Bytes as numbers of 32 bits, and such numbers as bytes.
+// Bytes as numbers of 32 bits, and such numbers as bytes. Numbers that fit are narrowed by `as` (`fit`). A part of a record's
+// numbers is a slice with its length in a clause: as an array it would have to be made by `try_from`, with a refusal that cannot
+// come.
 ghost use Rattle.std.specs.Prelude.{◌≡◌, true, ◌+◌, ◌≤◌, length, take, drop};
 ghost use Rattle.wire.specs.Addresses.{address_of};
 ghost use Rattle.wire.specs.Writing.{Put};
@@ -10,6 +12,7 @@ pub(crate) fn put_bytes(numbers: &mut [u32], bytes: &[u8])
     requires { length bytes.now ≡ length numbers.old }
     ensures { numbers.new ≡ bytes.now }
 {
+    // By index: behind `iter_mut` and an adapter such as `zip`, a proof knows how many the numbers are, and not which.
     for (i, byte) in bytes.iter().enumerate() {
         numbers[i] = u32::from(*byte);
     }
@@ -22,6 +25,7 @@ pub(crate) fn put_part(buffer: &mut [u8], at: usize, part: &[u32])
     requires part_value { fits part.now (octets (length part.now)) ≡ true }
     ensures { Put buffer.old at part.now (at + length part.now) buffer.new }
 {
+    // By index, as `put_bytes`.
     for (i, number) in part.iter().enumerate() {
         buffer[at + i] = *number as u8;
     }

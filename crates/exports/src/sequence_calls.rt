@@ -1,3 +1,4 @@
+// The calls of a sequence and of a channel. Numbers that fit are narrowed by `as` (`fit`).
 ghost use Rattle.std.specs.Prelude.{◌≡◌, refl, true, ◌*◌, length};
 ghost use Rattle.wire.specs.Said.{told};
 ghost use Rattle.wire.specs.Outcomes.{outcome, reply};
@@ -96,6 +97,7 @@ fn put_kept(numbers: &mut [u32], part: &[u8])
     requires many { length numbers.old ≡ 32 }
     ensures { numbers.new ≡ kept_entries part.now }
 {
+    // By index, as `put_bytes`.
     for i in 0..16 {
         numbers[2 * i] = u32::from(LegacyFlags::from_bits(part[2 * i]).0);
         numbers[2 * i + 1] = u32::from(part[2 * i + 1]);
@@ -145,7 +147,7 @@ fn sequence_read_in(
     sequence_into(s, at, encoding, numbers)
 }
 
-// Whether a simple sequence leaves its last sixteen bytes 0. Every number is looked at.
+// Whether a simple sequence leaves its last sixteen bytes 0. Every number is looked at, as in `fit`.
 fn no_more(numbers: &[u32]) -> bool
     ensures { result ≡ all_zero numbers.now }
 {
@@ -154,7 +156,8 @@ fn no_more(numbers: &[u32]) -> bool
         .fold(true, |none, number| none & (*number == 0))
 }
 
-// How many bytes are written of a sequence.
+// How many bytes are written of a sequence. The number is matched as it was lent, since no `TryFrom` of an encoding takes one of
+// 32 bits; it is the second place that tells the encodings (docs/SPEED.md).
 pub(crate) fn written_size(numbers: &[u32]) -> Result<usize, Refusal>
     requires { length numbers.now ≡ 33 }
     ensures { told result ≡ length_of (bytes_of (sequence_of numbers.now)) }

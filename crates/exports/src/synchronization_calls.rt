@@ -1,3 +1,4 @@
+// The calls of the synchronization record. Numbers that fit are narrowed by `as` (`fit`).
 ghost use Rattle.std.specs.Prelude.{◌≡◌, refl, true, ℕ, ◌+◌, ◌*◌, ◌≤◌, length, get_or, take, drop};
 ghost use Rattle.wire.specs.Reading.{read};
 ghost use Rattle.wire.specs.Said.{told};
@@ -20,6 +21,7 @@ use crate::told::{tell, tell_flag, tell_read};
 use synchronization_parameters::SynchronizationParametersTLV;
 use wire::{MACAddress, Refusal};
 
+// The largest number of each field, at its place among the numbers that C lends.
 const LARGEST: [u32; 60] = [
     255, 65535, 255, 255, 65535, 65535, 65535, 65535, 65535, 65535, 255, 255, 255, 255, 255, 255,
     255, 255, 255, 255, 255, 255, 65535, 65535, 255, 255, 65535, 255, 255, 255, 255, 255, 255, 255,
@@ -113,7 +115,7 @@ fn synchronization_of(numbers: &[u32; 60]) -> SynchronizationParametersTLV
     }
 }
 
-// The number at a place of a value that has its two bytes.
+// The number at a place of a value that has its two bytes. It is as `word` of the record's own reader, which is private to it.
 fn word_at(s: &[u8], at: usize) -> u32
     requires { at + 2 ≤ length s.now }
     ensures { result ≡ get_or s.now at 0 + 256 * get_or s.now (at + 1) 0 }
@@ -121,7 +123,7 @@ fn word_at(s: &[u8], at: usize) -> u32
     u32::from(u16::from_le_bytes([s[at], s[at + 1]]))
 }
 
-// The numbers in front of the sequence, of a value that has its fixed part.
+// The numbers in front of the sequence, of a value that has its fixed part, straight from the bytes (docs/SPEED.md).
 fn put_fixed(s: &[u8], numbers: &mut [u32])
     requires in_bounds { 33 ≤ length s.now }
     requires many { length numbers.old ≡ 24 }
@@ -153,7 +155,8 @@ fn put_fixed(s: &[u8], numbers: &mut [u32])
     numbers[23] = word_at(s, 31);
 }
 
-// How many of the fixed bytes each field takes. The mode and its reserved byte are one.
+// How many of the fixed bytes each field takes. The mode and its reserved byte are one. They stand here a second time, as all of
+// the fixed part does (docs/SPEED.md).
 const WIDTHS: [u8; 18] = [1, 2, 1, 1, 2, 2, 2, 2, 2, 2, 1, 1, 1, 1, 6, 2, 2, 2];
 
 // Reads a record straight into its numbers (docs/SPEED.md). Where it is refused, what stands in these is not said.

@@ -47,6 +47,8 @@ pub(crate) fn tell_placed(answer: Result<u32, Refusal>, offset: &mut usize, plac
     tell(answer, 0, place)
 }
 
+// As `tell`, with a record's numbers in the place of the value. As a call of `tell` it was tried, and was not
+// proved without an answer by hand.
 pub(crate) fn tell_record<R: Lent<N>, const N: usize>(
     answer: Result<R, Refusal>,
     numbers: &mut [u32; N],
