@@ -8,7 +8,11 @@ use crate::{
     synchronization,
 };
 
-// Each module has a table of the calls that it answers. A question without a fault shows its answer, and one with a fault shows nothing.
+// Each module has a table of the calls that it answers: one table of all calls would need a case for each module, and an arm for
+// each case. A call is a case of its module's enum, and the tables hold no functions: calls take their arguments in different
+// ways, so that each would be a function of one shape, which is no plainer than an arm. The words, the buffers and the output are
+// no struct: a call uses the words up, and borrows from the buffers what it hands to the output. A question without a fault shows
+// its answer, and one with a fault shows nothing.
 pub(crate) fn answer(
     name: &[u8],
     words: Words<'_>,

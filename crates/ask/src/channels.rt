@@ -43,6 +43,7 @@ impl Record for Channel {
     }
 }
 
+// No call answers the number of an encoding, and this is the one place that shows it.
 fn encoding_number(encoding: ChannelEncoding) -> u8 {
     match encoding {
         ChannelEncoding::Simple => 0,

@@ -41,6 +41,7 @@ enum Kind {
 
 const KINDS: [(&str, Kind); 2] = [("single", Kind::Single), ("map", Kind::Map)];
 
+// As for the `Kind` of marks: an impl for every type with a table would overlap with the one for numbers.
 impl Value for Kind {
     fn of(word: &[u8]) -> Option<Kind> {
         among(&KINDS, word)
@@ -132,6 +133,7 @@ fn field<P: Pass, T: Value>(
     Ok(Optional { present, value })
 }
 
+// This and the next hand on to the number inside: one impl for both would overlap with the one for numbers.
 impl Value for UnicastOptions {
     fn of(word: &[u8]) -> Option<UnicastOptions> {
         Some(UnicastOptions(u32::of(word)?))

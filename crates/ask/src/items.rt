@@ -79,7 +79,8 @@ fn end(tail: &[u8], out: &mut Output) -> Answered {
     Ok(())
 }
 
-// Each turn shows what stands at the place; the walk ends where that is no item.
+// Each turn shows what stands at the place, and the next goes on at the place that this answer gave. It is a `loop`, since what
+// ends the walk is no item and is shown too.
 fn walk(tail: &[u8], out: &mut Output) -> Answered {
     let mut place = 0;
     let mut items = 0u64;

@@ -44,6 +44,7 @@ const KINDS: [(&str, Kind); 6] = [
     ("end", Kind::End),
 ];
 
+// As for the `Kind` of data path channels: an impl for every type with a table would overlap with the one for numbers.
 impl Value for Kind {
     fn of(word: &[u8]) -> Option<Kind> {
         among(&KINDS, word)
@@ -65,7 +66,7 @@ fn kind_of(mark: Mark) -> Kind {
     }
 }
 
-// The numbers behind a mark that stands in an item's value.
+// The numbers behind a mark that stands in an item's value. They are passed one by one, as the cases of `Mark` hold them.
 fn inner<P: Pass>(
     fields: &mut P,
     item: Item,
@@ -129,7 +130,7 @@ fn next_line(mut words: Words<'_>, buffers: &mut Buffers, out: &mut Output) -> A
     out.named_hex(b" buffer=", &lent)
 }
 
-// Each line without its end, behind a bar.
+// Each line without its end, behind a bar. Each turn goes on from the mark that the last answer gave.
 fn lines(frame: &[u8], start: Mark, out: &mut Output) -> Answered {
     let mut line = [0u8; 128];
     let mut mark = start;

@@ -26,8 +26,9 @@ use session::Session;
 use std::io::{Read, Stdin, Stdout};
 use std::process::ExitCode;
 
-// Answers are written before more is read, so that one who waits for them has them. The number of blocks has no bound that matters:
-// the range is there so that it has one.
+// Answers are written before more is read, so that one who waits for them has them. Each loop has to be proved to end, and
+// nothing gets less as blocks are read: the range is there so that this one ends, and no input has as many blocks. `judge` reads
+// its blocks in the same way, and its `take_block` says why that stands in both.
 fn answer_blocks(mut stdin: Stdin, session: &mut Session) -> Answered {
     let mut block = [0u8; 65536];
     for _ in 0..u64::MAX {
@@ -55,7 +56,7 @@ fn main(rt: HostRuntime) -> ExitCode {
     let message = match answer_all(rt.stdin(), rt.stdout()) {
         Ok(()) => return ExitCode::SUCCESS,
         Err(Fault::Unread) => b"cannot read the input\n".as_slice(),
-        Err(_) => b"cannot write\n".as_slice(),
+        Err(Fault::BadQuestion | Fault::Unwritten) => b"cannot write\n".as_slice(),
     };
     let _ = rt.stderr().write_all(message);
     ExitCode::FAILURE

@@ -49,7 +49,7 @@ pub(crate) const CALLS: [(&str, (Format, RecordCall)); 15] = [
     ("sequence_write", (Sequence, Write)),
 ];
 
-// A record that can be measured and written.
+// A record that can be measured and written. The records' own functions are no trait's, so that each of these hands on to one.
 trait Measured: Record {
     fn consistency(self) -> Result<bool, Refusal>;
 

@@ -70,6 +70,7 @@ fn show_one<R: Record>(found: Option<Found<R>>, nothing: Option<R>, out: &mut Ou
     Ok(())
 }
 
+// Each turn goes on at the place that the last answer gave, behind its record.
 fn show_all<R: Record + tlvs::Record>(tail: &[u8], out: &mut Output) -> Answered {
     let mut place = 0;
     let mut records = 0u64;

@@ -59,6 +59,7 @@ impl Session {
         Ok(())
     }
 
+    // `judge` gathers its lines in the same way, and its `take_block` says why that stands in both.
     pub(crate) fn take_block(&mut self, block: &[u8]) -> Answered {
         for byte in block {
             if *byte == b'\n' {

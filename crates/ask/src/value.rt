@@ -7,6 +7,7 @@ use std::io;
 use std::io::Write;
 use wire::MACAddress;
 
+// It is neither `FromStr` nor `Display`: most of the types are not this program's, and a number is taken as `text` takes it.
 pub(crate) trait Value: Copy {
     fn of(word: &[u8]) -> Option<Self>;
 
@@ -54,6 +55,7 @@ impl Value for bool {
     }
 }
 
+// The bytes of an address are named here, since `wire` has no conversion between it and `[u8; 6]`.
 impl Value for MACAddress {
     fn of(word: &[u8]) -> Option<MACAddress> {
         let mut bytes = [0u8; 6];
@@ -112,7 +114,7 @@ pub(crate) fn put_bytes(word: &[u8], buf: &mut [u8]) -> Option<usize>
     Some(n)
 }
 
-// What a word of a table stands for.
+// What a word of a table stands for. The tables are short, and a map would need a heap.
 pub(crate) fn among<T: Copy>(table: &[(&'static str, T)], word: &[u8]) -> Option<T> {
     let (_, value) = table.iter().find(|(name, _)| name.as_bytes() == word)?;
     Some(*value)

@@ -57,6 +57,8 @@ impl<'a> Words<'a> {
         Err(Fault::BadQuestion)
     }
 
+    // This and the two below end the question behind its last argument. As one function they would be handed a closure that takes
+    // the argument, which is no shorter.
     pub(crate) fn only_value<T: Value>(mut self) -> Result<T, Fault> {
         let value = self.value()?;
         self.end()?;

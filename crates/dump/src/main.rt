@@ -17,7 +17,8 @@ fn room() -> [u8; 4097]
     [0; 4097]
 }
 
-// Reads until the input ends or the space is full: each of these brings no byte.
+// Reads until the input ends or the space is full: each of these brings no byte. The library's `copy` with `take` would try again
+// after a read that was interrupted, where this program says that it cannot read, and ends.
 fn read_input(mut stdin: Stdin, space: &mut [u8]) -> io::Result<usize>
     ensures { IfOk result (λ n. IsPrefixLen n space.new) }
 {
@@ -42,8 +43,8 @@ fn show(stdout: Stdout, input: &[u8], mark: Mark) -> io::Result<()> {
     Ok(())
 }
 
-// What was read is the whole input, or it is too long: the space has more room than the longest frame takes. The number stands beside
-// the space, and no part of it is passed alone, since it is the space of which this is asked.
+// What was read is the whole input, or it is too long: the space has more room than the longest frame takes. The number stands
+// beside the space, and no part of it is passed alone, since it is the space of which this is asked (the edit no_byte_more).
 fn dump(stdout: Stdout, space: &[u8], n: usize) -> io::Result<()>
     requires in_bounds { 4096 < length space.now }
     requires prefix_len { IsPrefixLen n space.now }

@@ -69,11 +69,17 @@ fn put_judged(out: &mut Answer, question: &Question, proposal: u8) -> io::Result
         proposal,
     ) {
         Ok(()) => writeln!(out, "accepted {proposal}")?,
-        Err(Refusal::NotPermitted) => writeln!(out, "refused 29: {proposal} is not permitted")?,
-        Err(Refusal::SmallerLoad(own)) => writeln!(
-            out,
-            "refused 30: {proposal} has a larger load than {own}, our own proposal"
-        )?,
+        Err(why @ Refusal::NotPermitted) => {
+            let number = why.number();
+            writeln!(out, "refused {number}: {proposal} is not permitted")?;
+        }
+        Err(why @ Refusal::SmallerLoad(own)) => {
+            let number = why.number();
+            writeln!(
+                out,
+                "refused {number}: {proposal} has a larger load than {own}, our own proposal"
+            )?;
+        }
         Err(why) => return put_refused(out, why),
     }
     put_loads(out, question)

@@ -10,7 +10,8 @@ use session::{Failure, Session};
 use std::io::{Read, Stdin, Stdout};
 use std::process::ExitCode;
 
-// The number of blocks has no bound that matters: the range is there so that it has one.
+// Each loop has to be proved to end, and nothing gets less as blocks are read: the range is there so that this one ends, and no
+// input has as many blocks. `ask` reads its blocks in the same way, and `take_block` says why that stands in both.
 fn answer_all(mut stdin: Stdin, stdout: Stdout) -> Result<(), Failure> {
     let mut session = Session::new(stdout);
     let mut block = [0u8; 65536];

@@ -79,6 +79,8 @@ impl Session {
         Ok(())
     }
 
+    // `ask` reads its blocks and gathers its lines in the same way. The two differ in what they do at a failed read, at the end
+    // of a block and at the end of the input, and no crate below both reads input: one for these few lines is no plainer.
     pub(crate) fn take_block(&mut self, block: &[u8]) -> Result<(), Failure> {
         for byte in block {
             if *byte == b'\n' {
