@@ -122,6 +122,11 @@ pub wrote_none : (s : List ℕ) (bytes : Answer (List ℕ)) {why : Refusal} → 
 wrote_none s (answer b) e = record { size = e; buffer = rw (← e) }
 wrote_none s (refusal why) e = record { size = e; buffer = refl }
 
+-- the same for one that asked a size which is that of what is written
+pub nothing-written : (s : List ℕ) (bytes : Answer (List ℕ)) {asked : Answer ℕ} {why : Refusal} → refusal why ≡ within (length s) asked
+    → asked ≡ length_of bytes → Wrote s bytes (refusal why) s
+nothing-written s bytes e same = wrote_none s bytes (e ∙ ap (within (length s)) same)
+
 -- a size that was given, and room for it
 abbrev pub RoomFor : Answer ℕ → ℕ → ℕ → Type 0
 RoomFor size n room = (size ≡ answer n) × (n ≤ room)
@@ -134,7 +139,7 @@ room_for {room} {size = size} same said given = within-room room size (ap told (
 pub wrote-refused : (s : List ℕ) (bytes : Answer (List ℕ)) {asked size : Answer ℕ} {r : Result ℕ Refusal} {why : Refusal} → length_of bytes ≡ size → asked ≡ size
     → told r ≡ within (length s) asked → r ≡ Err why → Wrote s bytes (refusal why) s
 wrote-refused s bytes long same said given =
-    wrote_none s bytes (ap told (sym given) ∙ said ∙ ap (within (length s)) (same ∙ sym long))
+    nothing-written s bytes (ap told (sym given) ∙ said) (same ∙ sym long)
 
 -- runs are put one behind the other, from any place
 infixl 20 ◌and-then◌

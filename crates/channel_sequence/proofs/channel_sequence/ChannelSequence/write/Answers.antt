@@ -1,10 +1,9 @@
 -- What is put is the bytes on the wire, after the size and the room were settled.
 -- Assumes nothing.
-use Rattle.std.proofs.Common.{◌≡◌, ◌≤◌, length, sym, ap, ◌∙◌, arith, rules}
+use Rattle.std.proofs.Common.{◌≡◌, ◌≤◌, length, sym, arith, rules}
 use Rattle.std.proofs.lemmas.Result.{err_from_is_err_and}
 use lib.Seq.{length-take-le}
-use Rattle.wire.specs.Writing.{within}
-use Rattle.wire.proofs.Stores.{room_for, wrote-all, wrote_none}
+use Rattle.wire.proofs.Stores.{room_for, wrote-all, nothing-written}
 use Rattle.channel_sequence.specs.Sequences.{bytes_of}
 use Rattle.channel_sequence.proofs.Entries.{sequence-written}
 use Rattle.channel_sequence.proofs.channel_sequence.ChannelSequence.write.Goals as goal
@@ -22,7 +21,7 @@ pub returns-in_err-n : goal.returns-in_err-n
 returns-in_err-n c =
     let p = err_from_is_err_and c.from_residual.result c.from_residual.ensures.1 in
     let buf = c.args.buf.now in
-    rw (p.1, p.2) (wrote_none buf (bytes_of c.args.self) (c.in_err-n.ensures ∙ ap (within (length buf)) c.written_size.ensures))
+    rw (p.1, p.2) (nothing-written buf (bytes_of c.args.self) c.in_err-n.ensures c.written_size.ensures)
 
 pub slice_bounds-bytes-end : goal.slice_bounds-bytes-end
 slice_bounds-bytes-end c =

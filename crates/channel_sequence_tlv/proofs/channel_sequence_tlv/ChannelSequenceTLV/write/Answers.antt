@@ -1,9 +1,8 @@
 -- The six bytes and then the entries are put, after the size and the room were settled.
 -- Assumes nothing.
-use Rattle.std.proofs.Common.{◌≡◌, length, ap, ◌∙◌, rules}
+use Rattle.std.proofs.Common.{◌≡◌, length, rules}
 use Rattle.std.proofs.lemmas.Result.{err_from_is_err_and}
-use Rattle.wire.specs.Writing.{within}
-use Rattle.wire.proofs.Stores.{◌also◌, room_for, wrote-sized, wrote_none}
+use Rattle.wire.proofs.Stores.{◌also◌, room_for, wrote-sized, nothing-written}
 use Rattle.channel_sequence_tlv.specs.SequenceTLVs.{bytes_of}
 use Rattle.channel_sequence_tlv.proofs.SequenceTLVs.{channel-sequence-written}
 use Rattle.channel_sequence_tlv.proofs.channel_sequence_tlv.ChannelSequenceTLV.write.Goals as goal
@@ -12,7 +11,7 @@ pub returns-in_err-n : goal.returns-in_err-n
 returns-in_err-n c =
     let p = err_from_is_err_and c.from_residual.result c.from_residual.ensures.1 in
     let buf = c.args.buf.now in
-    rw (p.1, p.2) (wrote_none buf (bytes_of c.args.self) (c.in_err-n.ensures ∙ ap (within (length buf)) c.written_size.ensures))
+    rw (p.1, p.2) (nothing-written buf (bytes_of c.args.self) c.in_err-n.ensures c.written_size.ensures)
 
 pub returns : goal.returns
 returns c =

@@ -1,13 +1,13 @@
 -- The size and the room are settled first, and then the fields and the sequence are put.
 -- Assumes nothing.
-use Rattle.std.proofs.Common.{◌≡◌, ℕ, length, ap, ◌∙◌, arith, rules}
+use Rattle.std.proofs.Common.{◌≡◌, ℕ, length, arith, rules}
 use Rattle.std.specs.Prelude.{Result, Ok}
 use Rattle.std.proofs.lemmas.Result.{err_from_is_err_and}
 use Rattle.wire.specs.declared.refusal.Refusal.{Refusal}
 use Rattle.wire.specs.Answer.{Answer}
 use Rattle.wire.specs.Said.{told}
 use Rattle.wire.specs.Writing.{within, length_of}
-use Rattle.wire.proofs.Stores.{◌and-then◌, RoomFor, room_for, wrote-sized, wrote_none}
+use Rattle.wire.proofs.Stores.{◌and-then◌, RoomFor, room_for, wrote-sized, nothing-written}
 use Rattle.synchronization_parameters.specs.declared.synchronization_parameters_tlv.SynchronizationParametersTLV.{SynchronizationParametersTLV}
 use Rattle.synchronization_parameters.specs.SynchronizationBytes.{bytes_of}
 use Rattle.synchronization_parameters.proofs.Sizes.{SynchronizationWritten, synchronization-written}
@@ -37,7 +37,7 @@ pub returns-in_err-n : goal.returns-in_err-n
 returns-in_err-n c =
     let p = err_from_is_err_and c.from_residual.result c.from_residual.ensures.1 in
     let buf = c.args.buf.now in
-    rw (p.1, p.2) (wrote_none buf (bytes_of c.args.self) (c.in_err-n.ensures ∙ ap (within (length buf)) c.written_size.ensures))
+    rw (p.1, p.2) (nothing-written buf (bytes_of c.args.self) c.in_err-n.ensures c.written_size.ensures)
 
 pub returns : goal.returns
 returns c =
