@@ -29,4 +29,31 @@ match($0, /^ *store i(16|32|64) [^,]+, ptr [^,]+, align 1$/) {
     print "\", align " wide
     next
 }
+# A table of names: a pointer and a length for each, then a tag in its first byte, or a number; the names stand behind the last. Nothing in the module
+# says how wide the numbers are, so that those of more than a byte are told by the first name of their table. A wrong width gives other answers.
+BEGIN {
+    wide_by["HEADER_SIZE"] = 8; wide_by["START_AIRPLAY"] = 4
+    wide_by["INFRA_BSSID_CHANNEL_PRESENT"] = 2; wide_by["LOG_TRIGGER_ID_PRESENT"] = 2; wide_by["CHANNEL_6"] = 2
+}
+function turned(from, wide,    i, text) {
+    for (i = wide - 1; i >= 0; i--) text = text byte[from + i]
+    return text
+}
+/^@static\.[0-9]+ = private constant <\{ ptr, / {
+    line = $0; groups = 0; taken = 0
+    while (match(line, / c"[^"]*"/)) {
+        before[++groups] = substr(line, 1, RSTART + 2); text = substr(line, RSTART + 3, RLENGTH - 4); line = substr(line, RSTART + RLENGTH - 1); from[groups] = taken
+        while (text != "") { n = substr(text, 1, 1) == "\\" ? 3 : 1; byte[taken++] = substr(text, 1, n); text = substr(text, n + 1) }
+    }
+    match($0, /ptr @static\.[0-9]+, i64 [0-9]+/); split(substr($0, RSTART, RLENGTH), word, " "); each = word[4] / groups - 8
+    if (each != 16 && each != 24) fail("a table of entries of " each " bytes")
+    names = ""; for (i = from[groups] + each; i < taken; i++) names = names byte[i]
+    wide = 1; for (name in wide_by) if (index(names, name) == 1) wide = wide_by[name]
+    for (g = 1; g <= groups; g++) {
+        printf "%s%s%s", before[g], turned(from[g], 8), turned(from[g] + 8, wide)
+        for (i = from[g] + 8 + wide; i < (g < groups ? from[g + 1] : taken); i++) printf "%s", byte[i]
+    }
+    print line
+    next
+}
 { print }
