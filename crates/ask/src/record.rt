@@ -8,6 +8,7 @@ pub(crate) trait Pass {
     fn pass<T: Value>(&mut self, name: &[u8], value: T) -> Result<T, Fault>;
 }
 
+// Each impl lists the fields of its own type. Where two lists are alike, that is chance: each type has to be built by its own name.
 pub(crate) trait Record: Copy + Default {
     fn through<P: Pass>(self, fields: &mut P) -> Result<Self, Fault>;
 }
