@@ -42,7 +42,8 @@ function turned(from, wide,    i, text) {
 /^@static\.[0-9]+ = private constant <\{ ptr, / {
     line = $0; groups = 0; taken = 0
     while (match(line, / c"[^"]*"/)) {
-        before[++groups] = substr(line, 1, RSTART + 2); text = substr(line, RSTART + 3, RLENGTH - 4); line = substr(line, RSTART + RLENGTH - 1); from[groups] = taken
+        before[++groups] = substr(line, 1, RSTART + 2); from[groups] = taken
+        text = substr(line, RSTART + 3, RLENGTH - 4); line = substr(line, RSTART + RLENGTH - 1)
         while (text != "") { n = substr(text, 1, 1) == "\\" ? 3 : 1; byte[taken++] = substr(text, 1, n); text = substr(text, n + 1) }
     }
     match($0, /ptr @static\.[0-9]+, i64 [0-9]+/); split(substr($0, RSTART, RLENGTH), word, " "); each = word[4] / groups - 8
