@@ -161,7 +161,9 @@ fn show<T: Value>(group: &[(&'static str, T)], words: Words<'_>, out: &mut Outpu
     words.end()?;
     out.accepted()?;
     for (name, number) in group {
-        write!(out, " {name}=")?;
+        out.text(b" ")?;
+        out.make_room(name.len() + 1)?;
+        write!(out, "{name}=")?;
         number.show(out)?;
     }
     Ok(())

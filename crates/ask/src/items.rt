@@ -3,7 +3,6 @@ use crate::buffers::Buffers;
 use crate::output::{Answered, Output};
 use crate::record::Record;
 use crate::words::Words;
-use std::io::Write;
 use tlvs::{End, Item, ReadTLVs, Step, StepWithValue};
 
 #[derive(Clone, Copy, Debug, PartialEq, Eq, Hash)]
@@ -32,10 +31,10 @@ fn show_step(step: Step, out: &mut Output) -> Answered {
         Step::Item(item, next) => {
             out.text(b" item")?;
             item.through(out)?;
-            write!(out, " next={next}")?;
+            out.named(b" next=", next)?;
         }
         Step::Whole => out.text(b" whole")?,
-        Step::Cut(place) => write!(out, " cut at={place}")?,
+        Step::Cut(place) => out.named(b" cut at=", place)?,
     }
     Ok(())
 }
@@ -73,8 +72,11 @@ fn value(mut words: Words<'_>, buffers: &mut Buffers, out: &mut Output) -> Answe
 
 fn end(tail: &[u8], out: &mut Output) -> Answered {
     match tlvs::end(tail) {
-        End::Whole(items) => write!(out, "0 offset=0 whole items={items}")?,
-        End::Cut(place, items) => write!(out, "0 offset=0 cut at={place} items={items}")?,
+        End::Whole(items) => out.named(b"0 offset=0 whole items=", items)?,
+        End::Cut(place, items) => {
+            out.named(b"0 offset=0 cut at=", place)?;
+            out.named(b" items=", items)?;
+        }
     }
     Ok(())
 }
@@ -83,13 +85,13 @@ fn end(tail: &[u8], out: &mut Output) -> Answered {
 // ends the walk is no item and is shown too.
 fn walk(tail: &[u8], out: &mut Output) -> Answered {
     let mut place = 0;
-    let mut items = 0u64;
+    let mut items = 0usize;
     out.accepted()?;
     loop {
         let both = tlvs::step_with_value(tail, place);
         show_step(both.step, out)?;
         let Step::Item(_, next) = both.step else {
-            write!(out, " items={items}")?;
+            out.named(b" items=", items)?;
             return Ok(());
         };
         out.named_hex(b" value=", both.value)?;

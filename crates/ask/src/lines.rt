@@ -122,7 +122,7 @@ fn next_line(mut words: Words<'_>, buffers: &mut Buffers, out: &mut Output) -> A
     let mut lent: [u8; 128] = words.only_value()?;
     match report::next_line(frame, start, &mut lent) {
         Some((length, next)) => {
-            write!(out, "0 offset=0 line length={length}")?;
+            out.named(b"0 offset=0 line length=", length)?;
             mark(out, next)?;
         }
         None => out.text(b"0 offset=0 nothing")?,
@@ -134,7 +134,7 @@ fn next_line(mut words: Words<'_>, buffers: &mut Buffers, out: &mut Output) -> A
 fn lines(frame: &[u8], start: Mark, out: &mut Output) -> Answered {
     let mut line = [0u8; 128];
     let mut mark = start;
-    let mut count = 0u64;
+    let mut count = 0usize;
     out.accepted()?;
     while let Some((length, next)) = report::next_line(frame, mark, &mut line) {
         out.text(b" | ")?;
@@ -144,7 +144,7 @@ fn lines(frame: &[u8], start: Mark, out: &mut Output) -> Answered {
         mark = next;
         count = count.wrapping_add(1);
     }
-    write!(out, " | lines={count}")?;
+    out.named(b" | lines=", count)?;
     Ok(())
 }
 

@@ -28,12 +28,21 @@ pub(crate) struct Output {
     block: ArrayVec<u8, 65536>,
 }
 
+// What does not fit goes whole into the next block, so that a word or a number is never in two: one whose output takes no more has
+// all that was written, up to the end of a word.
 impl Write for Output {
     fn write(&mut self, buf: &[u8]) -> io::Result<usize> {
-        if self.block.is_full() {
-            self.flush()?;
-        }
+        self.make_room(buf.len())?;
         self.block.write(buf)
+    }
+
+    // At once, where the library's would go on as long as less is taken. What is longer than a block goes past it: the block is empty then.
+    fn write_all(&mut self, buf: &[u8]) -> io::Result<()> {
+        self.make_room(buf.len())?;
+        if self.block.try_extend_from_slice(buf).is_err() {
+            return self.stdout.write_all(buf);
+        }
+        Ok(())
     }
 
     fn flush(&mut self) -> io::Result<()> {
@@ -47,8 +56,7 @@ impl Write for Output {
 impl Pass for Output {
     fn pass<T: Value>(&mut self, name: &[u8], value: T) -> Result<T, Fault> {
         self.write_all(b" ")?;
-        self.write_all(name)?;
-        value.show(self)?;
+        self.named(name, value)?;
         Ok(value)
     }
 }
@@ -61,15 +69,37 @@ impl Output {
         }
     }
 
-    // Bytes in hex, some at a time, and a sign where there are none.
+    // A block that has no room for so many bytes is written.
+    pub(crate) fn make_room(&mut self, n: usize) -> io::Result<()> {
+        if self.block.remaining_capacity() < n {
+            self.flush()?;
+        }
+        Ok(())
+    }
+
+    // A word and the value behind it.
+    pub(crate) fn named<T: Value>(&mut self, name: &[u8], value: T) -> io::Result<()> {
+        self.write_all(name)?;
+        value.show(self)
+    }
+
+    fn some_hex(&mut self, bytes: &[u8]) -> io::Result<()> {
+        let mut digits = [0u8; 1024];
+        self.make_room(16384)?;
+        for some in bytes.chunks(512) {
+            let n = text::put_hex(&mut digits, 0, some);
+            self.write_all(&digits[..n])?;
+        }
+        Ok(())
+    }
+
+    // Bytes in hex, some thousand at a time, so that each part has room, and a sign where there are none.
     pub(crate) fn hex(&mut self, bytes: &[u8]) -> io::Result<()> {
         if bytes.is_empty() {
             return self.write_all(b"-");
         }
-        for some in bytes.chunks(64) {
-            let mut digits = [0u8; 128];
-            let n = text::put_hex(&mut digits, 0, some);
-            self.write_all(&digits[..n])?;
+        for some in bytes.chunks(8192) {
+            self.some_hex(some)?;
         }
         Ok(())
     }
@@ -85,16 +115,15 @@ impl Output {
         Ok(())
     }
 
-    // What an answer without a refusal begins with.
+    // The same of an answer without a refusal, as one word.
     pub(crate) fn accepted(&mut self) -> Answered {
         self.text(b"0 offset=0")
     }
 
-    // What an answer with a refusal begins with: its number and its offset.
-    fn refused(&mut self, why: Refusal) -> Answered {
-        let number = why.number();
-        let offset = why.offset();
-        write!(self, "{number} offset={offset}")?;
+    // What an answer begins with: the number of its refusal, or 0, and its offset.
+    fn begin(&mut self, number: u8, offset: usize) -> Answered {
+        number.show(self)?;
+        self.named(b" offset=", offset)?;
         Ok(())
     }
 
@@ -102,11 +131,11 @@ impl Output {
     pub(crate) fn number<T: Value>(&mut self, name: &[u8], answer: Result<T, Refusal>) -> Answered {
         match answer {
             Ok(number) => {
-                self.accepted()?;
+                self.begin(0, 0)?;
                 self.pass(name, number)?;
             }
             Err(why) => {
-                self.refused(why)?;
+                self.begin(why.number(), why.offset())?;
                 self.pass(name, why.channel())?;
             }
         }
@@ -117,11 +146,11 @@ impl Output {
     pub(crate) fn record<R: Record>(&mut self, answer: Result<R, Refusal>) -> Answered {
         match answer {
             Ok(record) => {
-                self.accepted()?;
+                self.begin(0, 0)?;
                 record.through(self)?;
             }
             Err(why) => {
-                self.refused(why)?;
+                self.begin(why.number(), why.offset())?;
                 R::default().through(self)?;
             }
         }

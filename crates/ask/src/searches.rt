@@ -5,7 +5,6 @@ use crate::record::Record;
 use crate::words::Words;
 use channel_sequence_tlv::ChannelSequenceTLV;
 use data_path_state::DataPathStateTLV;
-use std::io::Write;
 use synchronization_parameters::SynchronizationParametersTLV;
 use tlvs::{Found, ReadTLVs};
 
@@ -52,7 +51,7 @@ fn show_found<R: Record>(found: Found<R>, out: &mut Output) -> Answered {
     let behind = found.behind;
     out.text(b" found")?;
     found.item.through(out)?;
-    write!(out, " next={behind}")?;
+    out.named(b" next=", behind)?;
     found.record.through(out)?;
     Ok(())
 }
@@ -73,14 +72,14 @@ fn show_one<R: Record>(found: Option<Found<R>>, nothing: Option<R>, out: &mut Ou
 // Each turn goes on at the place that the last answer gave, behind its record.
 fn show_all<R: Record + tlvs::Record>(tail: &[u8], out: &mut Output) -> Answered {
     let mut place = 0;
-    let mut records = 0u64;
+    let mut records = 0usize;
     out.accepted()?;
     while let Some(found) = R::next(tail, place) {
         show_found(found, out)?;
         place = found.behind;
         records = records.wrapping_add(1);
     }
-    write!(out, " records={records}")?;
+    out.named(b" records=", records)?;
     Ok(())
 }
 

@@ -36,7 +36,9 @@ where
         T::try_from(text::decimal_of(word)?).ok()
     }
 
+    // No number has more than twenty digits.
     fn show(self, out: &mut Output) -> io::Result<()> {
+        out.make_room(20)?;
         write!(out, "{self}")
     }
 }
@@ -104,7 +106,7 @@ fn put_part(part: &[u8], buf: &mut [u8], at: usize) -> Option<usize>
 pub(crate) fn put_bytes(word: &[u8], buf: &mut [u8]) -> Option<usize>
     ensures { IfSome result (λ n. n ≤ length buf.new) }
 {
-    if word == b"-".as_slice() {
+    if text::same(word, b"-") {
         return Some(0);
     }
     let mut n = 0;
@@ -116,7 +118,9 @@ pub(crate) fn put_bytes(word: &[u8], buf: &mut [u8]) -> Option<usize>
 
 // What a word of a table stands for. The tables are short, and a map would need a heap.
 pub(crate) fn among<T: Copy>(table: &[(&'static str, T)], word: &[u8]) -> Option<T> {
-    let (_, value) = table.iter().find(|(name, _)| name.as_bytes() == word)?;
+    let (_, value) = table
+        .iter()
+        .find(|(name, _)| text::same(name.as_bytes(), word))?;
     Some(*value)
 }
 

@@ -81,8 +81,8 @@ many-sequences zero s = refl
 many-sequences (suc many) s = rw (many-sequences many (drop 33 s))
 
 -- 64 sequences have 1,024 entries
-load-bound : (s : List ℕ) → length s / 33 ≤ 64 → (channel : ℕ) → load (whole_sequences s) channel ≤ 1024
-load-bound s few channel = omega (arith, load-most (whole_sequences s) channel, many-sequences (length s / 33) s)
+pub load-bound : (many : ℕ) (s : List ℕ) → many ≤ 64 → (channel : ℕ) → load (sequences_from many s) channel ≤ 1024
+load-bound many s few channel = omega (arith, load-most (sequences_from many s) channel, many-sequences many s)
 
 -- what has been counted and the sequences that are ahead make up all of them
 pub record Passing (s rest : List ℕ) (counters : Loads) : Type 0 where
@@ -93,7 +93,7 @@ pub passing-begun : {s rest : List ℕ} (counters : Loads) → rest ≡ s → ((
 passing-begun counters same none = record { listed = rw same; loads = λ channel. rw same (omega (arith, none channel)) }
 
 pub passing-bounded : {s rest : List ℕ} {counters : Loads} → Passing s rest counters → length s / 33 ≤ 64 → AtMost 1024 counters
-passing-bounded {s} w few channel = omega (arith, w.loads channel, load-bound s few channel)
+passing-bounded {s} w few channel = omega (arith, w.loads channel, load-bound (length s / 33) s few channel)
 
 -- the sequences that are ahead: the next one and those behind it
 next-sequence : (x rest : List ℕ) → length x ≡ 33 → whole_sequences (x ++ rest) ≡ record { encoding = get_or x 0 0; bytes = drop 1 x } ∷ whole_sequences rest

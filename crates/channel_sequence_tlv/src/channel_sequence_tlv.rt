@@ -5,7 +5,7 @@ ghost use Rattle.channel_sequence_tlv.specs.SequenceTLVs.{consistent, size_of, h
 ghost use Rattle.channel_sequence_tlv.specs.SequenceTLVReader.{channel_sequence_record};
 
 use channel_sequence::ChannelSequence;
-use wire::{AWDLTLVType, Refusal, Wire};
+use wire::{AWDLTLVType, Refusal};
 
 // The sequence that a peer hops over, with what stands in front of it. A synchronization value holds the same behind its fixed part.
 #[derive(Clone, Copy, Debug, PartialEq, Eq, Hash, Default)]
@@ -19,6 +19,9 @@ pub struct ChannelSequenceTLV {
 // What stands in front of the entries.
 const HEAD_SIZE: usize = 6;
 
+// How many of these six bytes each field takes.
+const HEAD_WIDTHS: [u8; 5] = [1, 1, 1, 1, 2];
+
 // The number of entries less one, as it stands on the wire.
 const COUNT: u8 = 15;
 
@@ -29,23 +32,23 @@ impl ChannelSequenceTLV {
 
     pub const MAX_SIZE: usize = 38;
 
-    // The record, and the place behind it. The count is looked at when all six bytes are there.
-    #[tactic(auto, unfolding(crate::specs::SequenceTLVReader::channel_sequence_record))]
+    // The record, and the place behind it. The count is looked at when all six bytes are there; only where they are not, the field that is
+    // short is looked for.
     pub fn read(s: &[u8], at: usize) -> Result<(ChannelSequenceTLV, usize), Refusal>
         ensures { said result ≡ channel_sequence_record s.now at }
     {
-        let (count, at) = u8::read_at(s, at)?;
-        let (encoding, at) = u8::read_at(s, at)?;
-        let (duplicate_count, at) = u8::read_at(s, at)?;
-        let (step_count, at) = u8::read_at(s, at)?;
-        let (fill_channel, at) = u16::read_at(s, at)?;
-        if count != COUNT {
+        let entries = match wire::field_at(s, at, HEAD_SIZE) {
+            Ok(behind_head) => behind_head,
+            Err(_) => return Err(Refusal::Short(wire::first_short(s, at, &HEAD_WIDTHS))),
+        };
+        if s[at] != COUNT {
             return Err(Refusal::ChannelCount);
         }
-        let (channel_sequence, next) = ChannelSequence::read(s, at, encoding)?;
+        let (channel_sequence, next) = ChannelSequence::read(s, entries, s[at + 1])?;
+        let fill_channel = u16::from_le_bytes([s[at + 4], s[at + 5]]);
         let record = ChannelSequenceTLV {
-            duplicate_count,
-            step_count,
+            duplicate_count: s[at + 2],
+            step_count: s[at + 3],
             fill_channel,
             channel_sequence,
         };

@@ -95,7 +95,7 @@ only-zero-channel (DataPathChannel.ChannelMap map) z = absurd (false≢true z)
 pub channel-zero : Zero zero_channel is_zero_channel
 channel-zero = record { itself = refl; only = only-zero-channel }
 
-only-zero-address : (a : MACAddress) → is_zero_address a ≡ true → a ≡ zero_address
+pub only-zero-address : (a : MACAddress) → is_zero_address a ≡ true → a ≡ zero_address
 only-zero-address a z =
     let n = each-zero (address_bytes a) z in
     λ i. record { 0 = n 0 i; 1 = n 1 i; 2 = n 2 i; 3 = n 3 i; 4 = n 4 i; 5 = n 5 i }

@@ -1,7 +1,7 @@
 -- Numbers that fit a data path record fit it one by one, part by part, and in their channel.
 -- Assumes nothing.
 use Prim.Native.Nat.{ℕ, ◌≤◌}
-use mathlib.Core.Path.{◌≡◌, ap}
+use mathlib.Core.Path.{◌≡◌}
 use mathlib.Core.Bool.{Bool, true, false, ◌&&◌}
 use mathlib.Core.List.{List}
 use native.Mathlib.Omega.{arith}
@@ -9,7 +9,7 @@ use lib.ListN.{get_or, take, drop}
 use Rattle.wire.specs.declared.refusal.Refusal.{Refusal}
 use Rattle.wire.specs.declared.refusal.Refusal.TheVariants.{Inconsistent}
 use Rattle.wire.specs.Answer.{refusal, require}
-use Rattle.exports.specs.Held.{fits, held}
+use Rattle.exports.specs.Held.{fits}
 use Rattle.exports.specs.DataPaths.{channel_fits, data_path_fits, data_path_largest}
 use Rattle.exports.proofs.Fits.{both, fits-at, fits-part}
 
@@ -27,6 +27,6 @@ module _ (ns : List ℕ) (fit : data_path_fits ns ≡ true) where
   held-channel = (both (fits ns data_path_largest) _ fit).1
 
 -- a test that fails settles that both hold
-pub unfit : {A : Type 0} (a b : Bool) (v : A) {why : Refusal} → refusal why ≡ require a Inconsistent → refusal why ≡ held (a && b) v
-unfit true b v e = absurd (let z : ◌≡◌ {A = ℕ} 0 1 = cc in omega arith)
-unfit false b v {why} e = let same : why ≡ Inconsistent = cc in ap refusal same
+pub unfit : (a b : Bool) {why : Refusal} → refusal why ≡ require a Inconsistent → refusal why ≡ require (a && b) Inconsistent
+unfit true b e = absurd (let z : ◌≡◌ {A = ℕ} 0 1 = cc in omega arith)
+unfit false b e = e

@@ -5,7 +5,7 @@ ghost use Rattle.wire.specs.Outcomes.{outcome, reply};
 ghost use Rattle.wire.specs.Writing.{length_of, Put, Wrote};
 ghost use Rattle.channel_sequence_tlv.specs.SequenceTLVs.{zero_channel_sequence, head_bytes};
 ghost use Rattle.channel_sequence_tlv.specs.SequenceTLVReader.{channel_sequence_record};
-ghost use Rattle.exports.specs.Held.{fits};
+ghost use Rattle.exports.specs.Held.{fits, flagged};
 ghost use Rattle.exports.specs.Laid.{beside, numbered};
 ghost use Rattle.exports.specs.Sequences.{channel_sequence_numbers, channel_sequence_largest, channel_sequence_of, channel_sequence_in};
 ghost use Rattle.exports.specs.Sequences.{channel_sequence_consistent, channel_sequence_size, channel_sequence_bytes};
@@ -131,6 +131,23 @@ fn write_channel_sequence(numbers: &[u32; 36], buffer: &mut [u8]) -> Result<usiz
     Ok(size)
 }
 
+// As those of a sequence (`sequence_consistent`).
+fn channel_sequence_consistent(numbers: &[u32; 36]) -> Result<bool, Refusal>
+    ensures { flagged (told result) ≡ channel_sequence_consistent numbers.now }
+{
+    let largest = LARGEST;
+    fit(numbers, &largest)?;
+    channel_sequence_of(numbers).consistent()
+}
+
+fn channel_sequence_size(numbers: &[u32; 36]) -> Result<usize, Refusal>
+    ensures { told result ≡ channel_sequence_size numbers.now }
+{
+    let largest = LARGEST;
+    fit(numbers, &largest)?;
+    channel_sequence_of(numbers).size()
+}
+
 pub fn awdl_channel_sequence_read(
     bytes: &[u8],
     at: usize,
@@ -147,15 +164,15 @@ pub fn awdl_channel_sequence_read(
 pub fn awdl_channel_sequence_consistent(numbers: &[u32; 36], consistent: &mut u32) -> u32
     ensures { ToldNumber (reply 0 (channel_sequence_consistent numbers.now)) result consistent.new }
 {
-    let held = ChannelSequenceTLV::held(numbers);
-    tell_flag(held.and_then(|c| c.consistent()), consistent)
+    let answer = channel_sequence_consistent(numbers);
+    tell_flag(answer, consistent)
 }
 
 pub fn awdl_channel_sequence_size(numbers: &[u32; 36], size: &mut usize) -> u32
     ensures { ToldNumber (reply 0 (channel_sequence_size numbers.now)) result size.new }
 {
-    let held = ChannelSequenceTLV::held(numbers);
-    tell(held.and_then(|c| c.size()), 0, size)
+    let answer = channel_sequence_size(numbers);
+    tell(answer, 0, size)
 }
 
 pub fn awdl_channel_sequence_write(numbers: &[u32; 36], buffer: &mut [u8], size: &mut usize) -> u32

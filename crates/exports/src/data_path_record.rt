@@ -1,5 +1,7 @@
 // A data path record as numbers, and numbers as a data path record.
 ghost use Rattle.std.specs.Prelude.{◌≡◌, refl, true};
+ghost use Rattle.wire.specs.declared.refusal.Refusal.TheVariants.{Inconsistent};
+ghost use Rattle.wire.specs.Answer.{require};
 ghost use Rattle.wire.specs.Said.{told};
 ghost use Rattle.data_path_state.specs.Outcomes.{zero_data_path};
 ghost use Rattle.exports.specs.DataPaths.{data_path_numbers, data_path_fits, data_path_of, data_path_in};
@@ -41,21 +43,28 @@ impl Lent<44> for DataPathStateTLV {
         numbers
     }
 
-    // A single channel is a byte, and a map a word.
     fn held(numbers: &[u32; 44]) -> Result<DataPathStateTLV, Refusal> {
-        let largest = LARGEST;
-        fit(numbers, &largest)?;
-        if numbers[6] == 1 || numbers[7] <= 255 {
-            return Ok(data_path_of(numbers));
-        }
-        Err(Refusal::Inconsistent)
+        fit_data_path(numbers)?;
+        Ok(data_path_of(numbers))
     }
 
     ghost zeros = { refl };
 }
 
+// A single channel is a byte, and a map a word.
+pub(crate) fn fit_data_path(numbers: &[u32; 44]) -> Result<(), Refusal>
+    ensures { told result ≡ require (data_path_fits numbers.now) Inconsistent }
+{
+    let largest = LARGEST;
+    fit(numbers, &largest)?;
+    if numbers[6] == 1 || numbers[7] <= 255 {
+        return Ok(());
+    }
+    Err(Refusal::Inconsistent)
+}
+
 // Numbers that fit are narrowed by `as` (`fit`).
-fn data_path_of(numbers: &[u32; 44]) -> DataPathStateTLV
+pub(crate) fn data_path_of(numbers: &[u32; 44]) -> DataPathStateTLV
     requires { data_path_fits numbers.now ≡ true }
     ensures { result ≡ data_path_of numbers.now }
 {

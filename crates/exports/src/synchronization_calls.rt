@@ -7,7 +7,7 @@ ghost use Rattle.wire.specs.Writing.{length_of, Put, Wrote};
 ghost use Rattle.synchronization_parameters.specs.declared.synchronization_parameters_tlv.SynchronizationParametersTLV as Parameters;
 ghost use Rattle.synchronization_parameters.specs.SynchronizationReader.{synchronization, zero_synchronization};
 ghost use Rattle.synchronization_parameters.specs.SynchronizationBytes.{fixed_bytes};
-ghost use Rattle.exports.specs.Held.{fits};
+ghost use Rattle.exports.specs.Held.{fits, flagged};
 ghost use Rattle.exports.specs.Laid.{beside, numbered};
 ghost use Rattle.exports.specs.Synchronizations.{synchronization_numbers, synchronization_largest, synchronization_of, synchronization_in};
 ghost use Rattle.exports.specs.Synchronizations.{synchronization_consistent, synchronization_size, synchronization_bytes};
@@ -250,6 +250,23 @@ fn write_synchronization(numbers: &[u32; 60], buffer: &mut [u8]) -> Result<usize
     Ok(size)
 }
 
+// As those of a sequence (`sequence_consistent`).
+fn synchronization_consistent(numbers: &[u32; 60]) -> Result<bool, Refusal>
+    ensures { flagged (told result) ≡ synchronization_consistent numbers.now }
+{
+    let largest = LARGEST;
+    fit(numbers, &largest)?;
+    synchronization_of(numbers).consistent()
+}
+
+fn synchronization_size(numbers: &[u32; 60]) -> Result<usize, Refusal>
+    ensures { told result ≡ synchronization_size numbers.now }
+{
+    let largest = LARGEST;
+    fit(numbers, &largest)?;
+    synchronization_of(numbers).size()
+}
+
 pub fn awdl_synchronization_read(
     bytes: &[u8],
     offset: &mut usize,
@@ -265,15 +282,15 @@ pub fn awdl_synchronization_read(
 pub fn awdl_synchronization_consistent(numbers: &[u32; 60], consistent: &mut u32) -> u32
     ensures { ToldNumber (reply 0 (synchronization_consistent numbers.now)) result consistent.new }
 {
-    let held = SynchronizationParametersTLV::held(numbers);
-    tell_flag(held.and_then(|p| p.consistent()), consistent)
+    let answer = synchronization_consistent(numbers);
+    tell_flag(answer, consistent)
 }
 
 pub fn awdl_synchronization_size(numbers: &[u32; 60], size: &mut usize) -> u32
     ensures { ToldNumber (reply 0 (synchronization_size numbers.now)) result size.new }
 {
-    let held = SynchronizationParametersTLV::held(numbers);
-    tell(held.and_then(|p| p.size()), 0, size)
+    let answer = synchronization_size(numbers);
+    tell(answer, 0, size)
 }
 
 pub fn awdl_synchronization_write(numbers: &[u32; 60], buffer: &mut [u8], size: &mut usize) -> u32

@@ -96,11 +96,15 @@ fn put_own(out: &mut Answer, question: &Question) -> io::Result<()> {
     put_loads(out, question)
 }
 
-pub(crate) fn put_answer(out: &mut Answer, question: &Result<Question, Bad>) -> io::Result<()> {
-    match question {
-        Ok(good) => match good.proposal {
-            Some(proposal) => put_judged(out, good, proposal),
-            None => put_own(out, good),
+pub(crate) fn put_answer(
+    out: &mut Answer,
+    good: Result<(), Bad>,
+    question: &Question,
+) -> io::Result<()> {
+    match good {
+        Ok(()) => match question.proposal {
+            Some(proposal) => put_judged(out, question, proposal),
+            None => put_own(out, question),
         },
         Err(bad) => writeln!(out, "{bad}"),
     }

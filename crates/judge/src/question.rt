@@ -75,25 +75,32 @@ impl Question {
         }
     }
 
+    pub(crate) fn clear(&mut self) {
+        self.sequences.clear();
+        self.permitted.clear();
+        self.proposal = None;
+        self.lines = 0;
+    }
+
     // A channel that has no room is one of too many, which the channels before it tell already.
-    pub(crate) fn permitting(line: &[u8]) -> Result<Question, Bad> {
-        let mut question = Question::new();
+    pub(crate) fn permit(&mut self, line: &[u8]) -> Result<(), Bad> {
         let list = behind(line, b"permitted ").ok_or(Bad::List)?;
-        if list == b"-".as_slice() {
-            return Ok(question);
+        if text::same(list, b"-") {
+            return Ok(());
         }
         for word in list.split(|c| *c == b',') {
             let channel = channel_of(word).ok_or(Bad::List)?;
-            let _ = question.permitted.try_push(channel);
+            let _ = self.permitted.try_push(channel);
         }
-        Ok(question)
+        Ok(())
     }
 
     fn propose(&mut self, line: &[u8]) -> Result<(), Bad> {
         let word = behind(line, b"proposal ").ok_or(Bad::Proposal)?;
-        self.proposal = match word {
-            b"-" => None,
-            _ => Some(channel_of(word).ok_or(Bad::Proposal)?),
+        self.proposal = if text::same(word, b"-") {
+            None
+        } else {
+            Some(channel_of(word).ok_or(Bad::Proposal)?)
         };
         Ok(())
     }
@@ -116,15 +123,12 @@ impl Question {
         Ok(())
     }
 
-    pub(crate) fn with(mut self, line: &[u8]) -> Result<Question, Bad> {
+    pub(crate) fn take(&mut self, line: &[u8]) -> Result<(), Bad> {
         if line.starts_with(b"proposal ") {
-            self.propose(line)?;
-            return Ok(self);
+            return self.propose(line);
         }
         self.lines = self.lines.wrapping_add(1);
-        match self.keep(line) {
-            Ok(()) => Ok(self),
-            Err(fault) => Err(Bad::File(self.lines, fault)),
-        }
+        self.keep(line)
+            .map_err(|fault| Bad::File(self.lines, fault))
     }
 }

@@ -20,21 +20,23 @@ impl Failure {
     }
 }
 
-// The question so far, where there is a line of one, and where its answer goes. The first thing that is bad is what is answered, so
-// that a question which is bad stays as it is.
+// The question so far, whether it is good, where there is a line of one, and where its answer goes. The first thing that is bad is
+// what is answered, so that a question which is bad stays as it is. The question stays in its place and is emptied for the next one:
+// it has room for all of its sequences, and to hand it on line by line took longer than the line (docs/SPEED.md).
 #[derive(Drop)]
 struct Asked {
     stdout: Stdout,
-    question: Option<Result<Question, Bad>>,
+    question: Question,
+    good: Option<Result<(), Bad>>,
 }
 
 impl Asked {
     fn show(&self) -> Result<(), Failure> {
-        let Some(question) = &self.question else {
+        let Some(good) = self.good else {
             return Ok(());
         };
         let mut out = ArrayVec::new();
-        put_answer(&mut out, question).map_err(|_| Failure::Unwritten)?;
+        put_answer(&mut out, good, &self.question).map_err(|_| Failure::Unwritten)?;
         self.stdout
             .write_all(out.as_slice())
             .map_err(|_| Failure::Unwritten)
@@ -44,12 +46,13 @@ impl Asked {
     fn take_line(&mut self, line: &[u8]) -> Result<(), Failure> {
         if line.starts_with(b"permitted ") {
             self.show()?;
-            self.question = Some(Question::permitting(line));
+            self.question.clear();
+            self.good = Some(self.question.permit(line));
             return Ok(());
         }
-        self.question = Some(match self.question.take() {
-            None => Question::new().with(line),
-            Some(question) => question.and_then(|good| good.with(line)),
+        self.good = Some(match self.good {
+            Some(Err(bad)) => Err(bad),
+            _ => self.question.take(line),
         });
         Ok(())
     }
@@ -68,7 +71,8 @@ impl Session {
             line: ArrayVec::new(),
             asked: Asked {
                 stdout,
-                question: None,
+                question: Question::new(),
+                good: None,
             },
         }
     }

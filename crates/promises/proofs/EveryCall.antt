@@ -17,7 +17,7 @@ use Rattle.wire.specs.Outcomes.{outcome, reply}
 use Rattle.wire.specs.Said.{said, told}
 use Rattle.text.specs.Text.{decimal, hex}
 use Rattle.text.specs.Words.{decimal_of, hex_of}
-use Rattle.text.specs.Into.{PutSaid}
+use Rattle.text.specs.Into.{PutSaid, TellsSame}
 use Rattle.channel.specs.Channels.{encoding_of, entry_size, size_of_encoding, kept_flags, support_channel, channel_bandwidth, band, corrected_in, corrected}
 use Rattle.channel_sequence.specs.Sequences as Q
 use Rattle.channel_sequence.specs.SequenceReader.{sequence}
@@ -179,6 +179,8 @@ pub record EveryCall : Type 2 where
       (λ κs a r e. PutSaid a.0.now a.1.0 (hex_of a.1.1.0.now) r e.0.now)
   pub text-repeat-into : Call text.repeat_into.Symbol.name text.repeat_into.Symbol.code text-said.repeat_into.ended
       (λ κs a r e. PutSaid a.0.now a.1.0 (Some (replicate a.1.1.1.0 a.1.1.0)) r e.0.now)
+  pub text_same : Call text.same.Symbol.name text.same.Symbol.code text-said.same.ended
+      (λ κs a r e. TellsSame a.0.now a.1.0.now r)
   -- channel encodings, legacy flags and the corrected channel
   pub encoding-try-from : Call encodings-named.try_from.Symbol.name encodings-named.try_from.Symbol.code encodings-named-said.try_from.ended
       (λ κs a r e. told r ≡ encoding_of a.0)
@@ -446,6 +448,7 @@ every_call =
       text-decimal-of = λ M. text.decimal_of.Met.met;
       text-hex-into = λ M. text.hex_into.Met.met;
       text-repeat-into = λ M. text.repeat_into.Met.met;
+      text_same = λ M. text.same.Met.met;
       encoding-try-from = λ M. encodings-named.try_from.Met.met;
       encoding-entry-size = λ M. encodings.entry_size.Met.met;
       encoding-corrected = λ M. encodings.corrected.Met.met;

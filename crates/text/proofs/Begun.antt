@@ -4,11 +4,16 @@ use Prim.Native.Nat.{ℕ, ◌+◌, ◌≤◌, ◌<◌}
 use native.Mathlib.Numerals.{add-one}
 use native.Mathlib.Omega.{arith}
 use mathlib.Core.Path.{◌≡◌, refl}
+use mathlib.Core.Bool.{true}
 use mathlib.Core.List.{List}
 use lib.ListN.{length, get_or, set, length-set}
 use lib.Seq.{paste, paste-zero, paste-suc}
-use Rattle.wire.specs.Writing.{Put}
+use borrow.Author.Tests.{le-leb, lt-leb}
+use Rattle.std.specs.Prelude.{Some, Ok, Err}
+use Rattle.wire.specs.Writing.{fits, Put}
 use Rattle.wire.proofs.Stores.{put-pasted}
+use Rattle.text.specs.declared.hex.HexError.TheVariants.{NoRoom}
+use Rattle.text.specs.Into.{PutSaid}
 
 -- i of the n bytes stand in the buffer, which has room for all
 pub record Begun (s : List ℕ) (at : ℕ) (bytes : List ℕ) (n i : ℕ) (buf : List ℕ) : Type 0 where
@@ -20,6 +25,12 @@ pub record Begun (s : List ℕ) (at : ℕ) (bytes : List ℕ) (n i : ℕ) (buf :
 
 pub begin : (s : List ℕ) (at : ℕ) (bytes : List ℕ) {n : ℕ} → length bytes ≡ n → at + n ≤ length s → Begun s at bytes n 0 s
 begin s at bytes many h = record { many = many; room = h; inside = omega arith; size = refl; laid = paste-zero s at bytes }
+
+-- no room for them
+pub said-past : (s : List ℕ) (at : ℕ) (bytes : List ℕ) {n : ℕ} → length bytes ≡ n → length s < at + n → PutSaid s at (Some bytes) (Err NoRoom) s
+said-past s at bytes many h =
+    let past = lt-leb (at + length bytes) (length s) (omega arith) in
+    record { place = rw past; buffer = rw past }
 
 module _ {s : List ℕ} {at : ℕ} {bytes : List ℕ} {n i : ℕ} {buf : List ℕ} (b : Begun s at bytes n i buf) where
   -- one byte more, at its place
@@ -36,3 +47,8 @@ module _ {s : List ℕ} {at : ℕ} {bytes : List ℕ} {n i : ℕ} {buf : List �
   -- all of them
   pub put_whole : i ≡ n → Put s at bytes (at + n) buf
   put_whole e = let all : i ≡ length bytes = omega arith in rw (b.laid, all, ← b.many) (put-pasted s at bytes (omega arith))
+
+  pub said-whole : i ≡ n → PutSaid s at (Some bytes) (Ok (at + n)) buf
+  said-whole e =
+      let room : fits s at bytes ≡ true = le-leb (at + length bytes) (length s) (omega arith) in
+      record { place = rw (room, b.many); buffer = (put_whole e).buffer }

@@ -2,10 +2,10 @@
 -- Assumes nothing.
 use Prim.Native.Nat.{ℕ, zero, suc, ◌+◌, ◌*◌, ◌/◌, ◌%◌, ◌<◌}
 use native.Mathlib.Omega.{arith}
-use mathlib.Core.Path.{◌≡◌, refl, sym, ◌∙◌}
+use mathlib.Core.Path.{◌≡◌, refl, sym, ap, ◌∙◌}
 use mathlib.Core.Bool.{Bool, true, false, not}
 use mathlib.Core.List.{List, [], ◌∷◌, ◌++◌}
-use lib.ListN.{length, get_or, take}
+use lib.ListN.{length, get_or}
 use borrow.Author.Tests.{not-false}
 use Rattle.std.specs.Prelude.{Option, Some, None, nat_eq}
 use Rattle.std.specs.Option.{is_some}
@@ -34,16 +34,6 @@ low_digit (b ∷ bs) (suc i) h =
     let place : 2 * suc i + 1 ≡ suc (suc (2 * i + 1)) = omega arith in
     rw place (low_digit bs i (omega arith))
 
--- one byte more is two digits more
-pub hex-more : (bytes : List ℕ) (i : ℕ) → i < length bytes
-    → hex (take (i + 1) bytes) ≡ hex (take i bytes) ++ (hex_digit (get_or bytes i 0 / 16) ∷ hex_digit (get_or bytes i 0 % 16) ∷ [])
-unfolding hex
-hex-more [] i h = absurd (omega arith)
-hex-more (b ∷ bs) zero h = refl
-hex-more (b ∷ bs) (suc i) h =
-    let place : suc i + 1 ≡ suc (i + 1) = omega arith in
-    rw (place, hex-more bs i (omega arith))
-
 -- what is read of digits: the first two of a word, and the others
 pub record Halved (high low : ℕ) (rest bytes : List ℕ) : Type 0 where
   pub b : ℕ
@@ -70,6 +60,19 @@ half (high ∷ low ∷ rest) {bytes} e =
     let h = halved high low rest e in
     let more = half rest h.behind in
     rw h.all (omega arith)
+
+pub pair-at : (word : List ℕ) {bytes : List ℕ} → hex_of word ≡ Some bytes → (i : ℕ) → i < length bytes
+    → hex_byte_of (get_or word (2 * i) 0) (get_or word (2 * i + 1) 0) ≡ Some (get_or bytes i 0)
+unfolding hex_of
+pair-at [] {bytes} e i h = let same : [] ≡ bytes = cc in absurd (omega (arith, ap length same))
+pair-at (letter ∷ []) e i h = cc
+pair-at (high ∷ low ∷ rest) {bytes} e zero h = let p = halved high low rest e in rw p.all p.first
+pair-at (high ∷ low ∷ rest) {bytes} e (suc i) h =
+    let p = halved high low rest e in
+    let even : 2 * suc i ≡ suc (suc (2 * i)) = omega arith in
+    let odd : 2 * suc i + 1 ≡ suc (suc (2 * i + 1)) = omega arith in
+    let size = ap length p.all in
+    rw (p.all, odd, even) (pair-at rest p.behind i (omega arith))
 
 -- a word that begins with two letters
 pub two-letters : (pair rest : List ℕ) → length pair ≡ 2 → pair ++ rest ≡ get_or pair 0 0 ∷ get_or pair 1 0 ∷ rest
@@ -106,6 +109,13 @@ unfolding hex_of
 left-over [] h = refl
 left-over (letter ∷ []) h = refl
 left-over (high ∷ low ∷ rest) h = absurd (omega arith)
+
+pub odd-none : (word : List ℕ) → length word % 2 ≡ 1 → hex_of word ≡ None
+odd-none word h = go (hex_of word) refl
+  where
+    go : (m : Option (List ℕ)) → hex_of word ≡ m → m ≡ None
+    go (Some bytes) e = absurd (let size = half word e in omega arith)
+    go None e = refl
 
 -- the bytes of a word that is hex
 abbrev pub bytes_in : Option (List ℕ) → List ℕ

@@ -1,12 +1,12 @@
 -- Bytes are put one by one: those of the pairs so far stand in the buffer, and those of the pairs that are left have room behind them.
 -- Assumes nothing.
-use Prim.Native.Nat.{ℕ, ◌+◌, ◌*◌, ◌/◌, ◌%◌, ◌≤◌, ◌<◌}
+use Prim.Native.Nat.{ℕ, ◌+◌, ◌/◌, ◌≤◌, ◌<◌}
 use native.Mathlib.Omega.{arith}
 use mathlib.Core.Path.{◌≡◌, refl, sym, ap, ◌∙◌}
 use mathlib.Core.Bool.{Bool, true, false, not}
 use mathlib.Core.List.{List, [], ◌∷◌, ◌++◌, append_assoc, append-nil}
 use lib.Dec.{leb}
-use lib.ListN.{length, get_or, take, length-append, length-take}
+use lib.ListN.{length, get_or, length-append}
 use borrow.Author.Tests.{le-leb, lt-leb, leb-true, leb-false}
 use Rattle.std.specs.Prelude.{Some, Result, Ok, Err}
 use Rattle.std.specs.Result.{is_err}
@@ -17,20 +17,10 @@ use Rattle.wire.specs.Said.{told}
 use Rattle.wire.specs.Writing.{fits, Put}
 use Rattle.wire.proofs.Stores.{put-empty, put_then}
 use Rattle.text.specs.declared.hex.HexError.TheVariants.{NoRoom}
-use Rattle.text.specs.Text.{hex, hex_digit}
 use Rattle.text.specs.Words.{meant, hex_byte_of, hex_of}
 use Rattle.text.specs.Into.{PutSaid}
-use Rattle.text.proofs.Halves.{length-hex, hex-more, half, Halved, halved, two-letters, bytes_in, said-bytes}
-
--- digits: two more behind those of the bytes so far
-pub digits-more : (bytes : List ℕ) {s : List ℕ} {at i place high low next : ℕ} {t u : List ℕ} → Put s at (hex (take i bytes)) place t → at + 2 * length bytes ≤ length s
-    → i < length bytes → high ≡ hex_digit (get_or bytes i 0 / 16) → low ≡ hex_digit (get_or bytes i 0 % 16)
-    → Put t place (high ∷ low ∷ []) next u → Put s at (hex (take (i + 1) bytes)) next u
-digits-more bytes {s} {at} {i} p room inside e f q =
-    let many = length-hex (take i bytes) in
-    let few = length-take i bytes in
-    let both = put_then p (rw (e, f) at q) (omega arith) in
-    rw (hex-more bytes i inside) both
+use Rattle.text.proofs.Begun.{said-past}
+use Rattle.text.proofs.Halves.{half, Halved, halved, two-letters, bytes_in, said-bytes}
 
 empty : (xs : List ℕ) → length xs ≡ 0 → xs ≡ []
 empty [] e = refl
@@ -70,12 +60,11 @@ pasting-none word s at e h =
     let size = half word said in
     record { there = []; others = bytes_in (hex_of word); said = said; behind = said; room = omega arith; put = put-empty s at }
 
-pub said-past : (word s : List ℕ) (at : ℕ) → true ≡ meant (hex_of word) → length s < at + length word / 2 → PutSaid s at (hex_of word) (Err NoRoom) s
-said-past word s at e h =
+pub pasting-past : (word s : List ℕ) (at : ℕ) → true ≡ meant (hex_of word) → length s < at + length word / 2 → PutSaid s at (hex_of word) (Err NoRoom) s
+pasting-past word s at e h =
     let said = said-bytes (hex_of word) (sym e) in
     let size = half word said in
-    let past = lt-leb (at + length (bytes_in (hex_of word))) (length s) (omega arith) in
-    rw said (record { place = rw past; buffer = rw past })
+    rw said (said-past s at (bytes_in (hex_of word)) refl (omega arith))
 
 module _ {word left s : List ℕ} {at place : ℕ} {buf : List ℕ} (p : Pasting word left s at place buf) where
   -- the pair in front is a byte

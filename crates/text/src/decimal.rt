@@ -14,7 +14,9 @@ fn digit(d: u64) -> u8
 }
 
 // The last digit is found first, so the digits are gathered from the end of twenty places, which are enough for every number. `write!`
-// would promise them only where it succeeds, and no contract says that it does; `to_string` takes memory from a heap.
+// would promise them only where it succeeds, and no contract says that it does; `to_string` takes memory from a heap. The turns are
+// written out by the compiler, so that this is a call of its own: inside its callers it kept them from knowing their words' lengths.
+#[inline(never)]
 pub fn put_decimal(buf: &mut [u8], at: usize, n: u64) -> usize
     ensures { Put buf.old at (decimal n) result buf.new }
 {

@@ -2,7 +2,7 @@ ghost use Rattle.std.specs.Prelude.{ℕ, ◌≡◌, ◌+◌, ◌*◌, ◌/◌, �
 ghost use Rattle.wire.specs.Writing.{Put};
 ghost use Rattle.text.specs.Text.{hex, hex_digit};
 ghost use Rattle.text.specs.Words.{meant, hex_digit_of, hex_byte_of, hex_of};
-ghost use Rattle.text.specs.Into.{PutSaid};
+ghost use Rattle.text.specs.Into.{PutSaid, TellsSame};
 
 use wire::{field_at, put_slice};
 
@@ -38,12 +38,12 @@ pub fn put_hex(buf: &mut [u8], at: usize, bytes: &[u8]) -> usize
     if field_at(buf, at, 2 * bytes.len()).is_err() {
         return at;
     }
-    let mut place = at;
-    for byte in bytes {
-        let digits = [high_digit(*byte), low_digit(*byte)];
-        place = put_slice(buf, place, &digits);
+    // The room was asked once, and `put_slice` would ask again for each byte (docs/SPEED.md).
+    for (i, byte) in bytes.iter().enumerate() {
+        buf[at + 2 * i] = high_digit(*byte);
+        buf[at + 2 * i + 1] = low_digit(*byte);
     }
-    place
+    at + 2 * bytes.len()
 }
 
 // Why no bytes were put.
@@ -75,12 +75,15 @@ fn byte_of(high: u8, low: u8) -> Option<u8>
 fn is_hex(word: &[u8]) -> bool
     ensures { result ≡ meant (hex_of word.now) }
 {
+    if word.len() % 2 == 1 {
+        return false;
+    }
     for pair in word.chunks_exact(2) {
         if byte_of(pair[0], pair[1]).is_none() {
             return false;
         }
     }
-    word.len() % 2 == 0
+    true
 }
 
 // Puts the bytes that a word writes in hex digits, in either case, and gives the place behind them. Nothing is put where it is no
@@ -111,4 +114,11 @@ pub fn repeat_into(buf: &mut [u8], at: usize, byte: u8, times: usize) -> Result<
     };
     buf[at..next].fill(byte);
     Ok(next)
+}
+
+// Whether two slices have the same bytes.
+pub fn same(a: &[u8], b: &[u8]) -> bool
+    ensures { TellsSame a.now b.now result }
+{
+    a == b
 }

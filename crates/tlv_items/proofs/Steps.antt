@@ -1,6 +1,7 @@
 -- A step that finds an item finds it at its place, whole and within the tail, because each of the three fields was read. A step that ends the walk ends it there.
 -- Assumes nothing.
 use Prim.Native.Nat.{ℕ, ◌+◌, ◌-◌, ◌≤◌}
+use native.Mathlib.Nat.{zero-add}
 use native.Mathlib.Omega.{arith}
 use mathlib.Core.Path.{◌≡◌, refl, sym, ap, ◌∙◌}
 use mathlib.Core.Bool.{Bool, true, false, cond}
@@ -10,6 +11,7 @@ use lib.ListN.{length, take, drop}
 use borrow.Author.Tests.{eqb-true, le-leb}
 use Rattle.wire.specs.Reading.{Reading, read, refused, field, give, ◌>>=◌}
 use Rattle.wire.specs.Numbers.{number, little}
+use Rattle.wire.specs.Parts.{part_at}
 use Rattle.tlv_items.specs.declared.item.Item.{Item}
 use Rattle.tlv_items.specs.declared.item.Step.{Step}
 use Rattle.tlv_items.specs.Items.{item, step_of, step_at}
@@ -74,3 +76,7 @@ step_cut s at {place} e = go (eqb at (length s)) (item at s at) e
     go true r e = absurd (cc)
     go false (read it next) e = absurd (cc)
     go false (refused why) e = cc
+
+-- a part from the start on lies where the slice does
+pub at-start : (p : ℕ × ℕ) → p ≡ part_at 0 p
+at-start p = ap (λ (offset : ℕ). (p.0, offset)) (sym (zero-add p.1))

@@ -1,42 +1,36 @@
 ghost use Rattle.std.specs.Prelude.{◌≡◌};
 ghost use Rattle.wire.specs.Parts.{part_at};
-ghost use Rattle.wire.specs.Said.{said};
-ghost use Rattle.tlv_items.specs.Items.{item, step_at, value_of, value_start};
+ghost use Rattle.tlv_items.specs.Items.{step_at, value_of, value_start};
 ghost use Rattle.tlv_items.specs.Walk.{walk, end_report};
 ghost use Rattle.tlv_items.specs.Said.{said_end};
 
 use crate::item::{End, Item, Step};
-use wire::{Refusal, Wire};
 
-// The item at a place, and the place behind its value.
-fn item_at(tail: &[u8], at: usize) -> Result<(Item, usize), Refusal>
-    ensures { said result ≡ item at tail.now at }
-{
-    let (tlv_type, behind_type) = u8::read_at(tail, at)?;
-    let (value_length, behind_length) = u16::read_at(tail, behind_type)?;
-    let length = usize::from(value_length);
-    let behind_value = wire::field_at(tail, behind_length, length)?;
-    Ok((
-        Item {
-            at,
-            tlv_type,
-            length,
-        },
-        behind_value,
-    ))
-}
-
-// Whichever field does not fit, the tail is cut at the place of the item.
-#[tactic(auto, unfolding(crate::specs::Items::step_at))]
+// With fewer than three bytes left, or a length above what follows, the tail is cut at the place of the item. It goes by what is left:
+// the three fields read one after the other took a third longer (docs/SPEED.md).
 pub fn step(tail: &[u8], at: usize) -> Step
     ensures { result ≡ step_at tail.now at }
 {
     if at == tail.len() {
         return Step::Whole;
     }
-    match item_at(tail, at) {
-        Ok((item, behind_value)) => Step::Item(item, behind_value),
-        Err(_) => Step::Cut(at),
+    let left = tail.len().saturating_sub(at);
+    if left < 3 {
+        return Step::Cut(at);
+    }
+    let behind_length = at + 3;
+    let length = usize::from(u16::from_le_bytes([tail[at + 1], tail[at + 2]]));
+    if left - 3 < length {
+        Step::Cut(at)
+    } else {
+        Step::Item(
+            Item {
+                at,
+                tlv_type: tail[at],
+                length,
+            },
+            behind_length + length,
+        )
     }
 }
 

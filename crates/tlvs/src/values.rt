@@ -16,10 +16,15 @@ pub struct StepWithValue<'a> {
 pub fn step_with_value<'a>(tail: &'a [u8], at: usize) -> StepWithValue<'a>
     ensures { (result.step ≡ step_at tail.now at) × (result.value.now ≡ value_at tail.now at) × (result.value.ref_ptr ≡ part_at (value_start_at tail.now at) tail.entry.ref_ptr) }
 {
-    let step = tlv_items::step(tail, at);
-    let value = match step {
-        Step::Item(item, _) => tlv_items::value(tail, item),
-        Step::Whole | Step::Cut(_) => &tail[..0],
-    };
-    StepWithValue { step, value }
+    match tlv_items::step(tail, at) {
+        // The step was found here, so that the part needs no second test, as `value` would make.
+        step @ Step::Item(_, behind_value) => StepWithValue {
+            step,
+            value: &tail[at + 3..behind_value],
+        },
+        step @ (Step::Whole | Step::Cut(_)) => StepWithValue {
+            step,
+            value: &tail[..0],
+        },
+    }
 }

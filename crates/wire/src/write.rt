@@ -23,7 +23,10 @@ pub fn put_slice(buf: &mut [u8], at: usize, bytes: &[u8]) -> usize
 {
     match at.checked_add(bytes.len()) {
         Some(next) if next <= buf.len() => {
-            buf[at..next].copy_from_slice(bytes);
+            // By index: the library's copy would ask the board for `memmove`, and it has to provide `memcpy` and `memset` alone.
+            for (i, byte) in bytes.iter().enumerate() {
+                buf[at + i] = *byte;
+            }
             next
         }
         _ => at,

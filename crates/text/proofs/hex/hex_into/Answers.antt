@@ -2,14 +2,14 @@
 -- Assumes nothing.
 use Rattle.std.proofs.Common.{◌/◌, length, sym, ◌∙◌, arith}
 use Rattle.std.specs.Slice.Iter.{chunks_exact_rest}
-use Rattle.text.proofs.Pasting.{no-room, some-room, said-past, pasting-none, first-of, pasting-more, pasting-all}
+use Rattle.text.proofs.Pasting.{no-room, some-room, pasting-past, pasting-none, first-of, pasting-more, pasting-all}
 use Rattle.text.proofs.hex.hex_into.Goals as goal
 
 pub returns-then-is_err : goal.returns-then-is_err
 returns-then-is_err c =
     let word = c.args.word.now in
     let past = no-room (length word / 2) c.args.buf.now c.args.at c.field_at.result c.field_at.ensures c.if-is_err.ensures.value in
-    said-past word c.args.buf.now c.args.at c.if-not-is_hex.ensures past
+    pasting-past word c.args.buf.now c.args.at c.if-not-is_hex.ensures past
 
 pub loop-pair-init : goal.loop-pair-init
 loop-pair-init c =

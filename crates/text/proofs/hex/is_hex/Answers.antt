@@ -1,9 +1,12 @@
--- A pair that is a byte is passed, and one that is none ends it; so does a letter that is left over.
+-- A pair that is a byte is passed, and one that is none ends it; so does an odd number of letters.
 -- Assumes nothing.
-use Rattle.std.proofs.Common.{length, sym, ◌∙◌, ap, arith, length-append}
+use Rattle.std.proofs.Common.{length, ◌%◌, ◌≡◌, sym, ◌∙◌, ap, arith, length-append}
 use Rattle.std.specs.Slice.Iter.{chunks_exact_rest}
-use Rattle.text.proofs.Halves.{none-in-front, pair-in-front, left-over}
+use Rattle.text.proofs.Halves.{odd-none, none-in-front, pair-in-front, left-over}
 use Rattle.text.proofs.hex.is_hex.Goals as goal
+
+pub returns-then-word-eq1 : goal.returns-then-word-eq1
+returns-then-word-eq1 c = rw (odd-none c.args.word.now c.if-word-eq1.true)
 
 pub returns-then-is_none : goal.returns-then-is_none
 returns-then-is_none c =
@@ -23,5 +26,6 @@ loop-pair-preserved c =
 pub returns : goal.returns
 returns c =
     let few = c.in-None.ensures.steps.1.0 in
-    let left = left-over (chunks_exact_rest c.loop-pair.pair-iterator) (omega arith) in
-    rw (← c.loop-pair.invariant.1) left ∙ sym c.loop-pair.invariant.2
+    let rest = chunks_exact_rest c.loop-pair.pair-iterator in
+    let even : length rest % 2 ≡ 0 = omega arith in
+    rw even at (left-over rest (omega arith)) ∙ sym c.loop-pair.invariant.2
