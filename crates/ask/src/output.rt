@@ -1,4 +1,4 @@
-// Answers are gathered in a block, which is written where it is full.
+// Answers are gathered in a block, which is written where the next word has no room.
 use crate::record::{Pass, Record};
 use crate::value::Value;
 use arrayvec::ArrayVec;
@@ -28,8 +28,8 @@ pub(crate) struct Output {
     block: ArrayVec<u8, 65536>,
 }
 
-// What does not fit goes whole into the next block, so that a word or a number is never in two: one whose output takes no more has
-// all that was written, up to the end of a word.
+// What does not fit goes whole into the next block, so that a word or a number is never in two (long bytes go by parts): one whose
+// output takes no more has all that was written, up to the end of a word.
 impl Write for Output {
     fn write(&mut self, buf: &[u8]) -> io::Result<usize> {
         self.make_room(buf.len())?;
@@ -115,16 +115,16 @@ impl Output {
         Ok(())
     }
 
-    // The same of an answer without a refusal, as one word.
-    pub(crate) fn accepted(&mut self) -> Answered {
-        self.text(b"0 offset=0")
-    }
-
     // What an answer begins with: the number of its refusal, or 0, and its offset.
     fn begin(&mut self, number: u8, offset: usize) -> Answered {
         number.show(self)?;
         self.named(b" offset=", offset)?;
         Ok(())
+    }
+
+    // The same of an answer without a refusal, as one word.
+    pub(crate) fn accepted(&mut self) -> Answered {
+        self.text(b"0 offset=0")
     }
 
     // The number beside a refusal is the channel that one of them carries.

@@ -51,7 +51,7 @@ pub fn awdl_data_path_consistent(numbers: &[u32; 44], consistent: &mut u32) -> u
 pub fn awdl_data_path_mend(numbers: &[u32; 44], mended: &mut [u32; 44]) -> u32
     ensures { ToldRecord data_path_numbers (reply zero_data_path (data_path_mended numbers.now)) result mended.new }
 {
-    // As `tell_record`, with no `Result` of a record between them, which took half as long again (docs/SPEED.md).
+    // As `tell_record`, with no `Result` of a record between them, which took half as long again (docs/LOOK-BACK.md).
     match fit_data_path(numbers) {
         Ok(()) => {
             *mended = data_path_of(numbers).mend().to_numbers();

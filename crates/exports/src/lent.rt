@@ -19,7 +19,8 @@ pub(crate) trait Lent<const N: usize>: Copy {
     fn to_numbers(self) -> [u32; N]
         ensures { result ≡ numbers_of self };
 
-    // Numbers that their fields cannot hold are refused before anything else is asked.
+    // Numbers that their fields cannot hold are refused before anything else is asked. Most calls ask the record where it is made,
+    // and not through this (`sequence_consistent`).
     fn held(numbers: &[u32; N]) -> Result<Self, Refusal>
         ensures { told result ≡ held_in numbers.now };
 

@@ -186,7 +186,7 @@ fn write_sequence(numbers: &[u32; 33], buffer: &mut [u8]) -> Result<usize, Refus
     Ok(size)
 }
 
-// These ask the record where it is made, and hand it on in no `Result`: as `held` does, they took half as long again and more (docs/SPEED.md).
+// Each asks the record where it is made. Through `held`, which hands it on in a `Result`, they took half as long again and more (docs/LOOK-BACK.md).
 fn sequence_consistent(numbers: &[u32; 33]) -> Result<bool, Refusal>
     ensures { flagged (told result) ≡ sequence_consistent numbers.now }
 {
