@@ -11,6 +11,7 @@ use mathlib.Core.List.{List, ◌++◌}
 use lib.Dec.{leb}
 use lib.ListN.{length, get_or, drop}
 use borrow.Author.Tests.{le-leb, leb-true}
+use Rattle.wire.specs.declared.refusal.Refusal.{Refusal}
 use Rattle.wire.specs.declared.refusal.Refusal.TheVariants.{Short}
 use Rattle.wire.specs.Reading.{read, refused, onward}
 use Rattle.wire.specs.ShortFields.{first_short}
@@ -82,6 +83,10 @@ pub all_words : (s : List ℕ) → 33 ≤ length s → {channels : ChannelSequen
     → a ≡ word_at s 1 → b ≡ word_at s 5 → c ≡ word_at s 7 → d ≡ word_at s 9 → e ≡ word_at s 11 → f ≡ word_at s 13 → g ≡ word_at s 15 → h ≡ word_at s 29 → i ≡ word_at s 31
     → synchronization s 0 ≡ read (worded s channels a b c d e f g h i) next
 all_words s enough entries ea eb ec ed ee ef eg eh ei = rw (ea, eb, ec, ed, ee, ef, eg, eh, ei) (all-fields s enough ∙ rw entries)
+
+-- what refuses the sequence refuses the record
+pub refused_within : (s : List ℕ) → 33 ≤ length s → {why : Refusal} → channel_sequence_record s 33 ≡ refused why → synchronization s 0 ≡ refused why
+refused_within s enough e = all-fields s enough ∙ rw e
 
 begins : Begins synchronization (fixed_widths ++ head_widths)
 unfolding synchronization

@@ -51,34 +51,39 @@ impl SynchronizationParametersTLV {
         ensures { said result ≡ synchronization s.now 0 }
     {
         // The length is asked once, and each field is then taken at its place without a test of its own. Only where the fixed part
-        // is not all there, the field that is short is looked for.
+        // is not all there, the field that is short is looked for. What refuses the sequence has an arm of its own, and not `?`, since a
+        // must-fail edit makes an answer of it.
         if s.len() < FIXED_SIZE {
             return Err(Refusal::Short(wire::first_short(s, 0, &WIDTHS)));
         }
-        let (channel_sequence, next) = ChannelSequenceTLV::read(s, FIXED_SIZE)?;
-        let parameters = SynchronizationParametersTLV {
-            next_channel: s[0],
-            tx_counter: word(s, 1),
-            master_channel: s[3],
-            guard_time: s[4],
-            aw_period: word(s, 5),
-            af_period: word(s, 7),
-            awdl_flags: word(s, 9),
-            aw_ext_length: word(s, 11),
-            aw_common_length: word(s, 13),
-            remaining_aw_length: word(s, 15),
-            min_ext_count: s[17],
-            max_multicast_ext_count: s[18],
-            max_unicast_ext_count: s[19],
-            max_af_ext_count: s[20],
-            master_address: MACAddress(s[21], s[22], s[23], s[24], s[25], s[26]),
-            presence_mode: s[27],
-            reserved: s[28],
-            aw_seq_number: word(s, 29),
-            ap_beacon_alignment_delta: word(s, 31),
-            channel_sequence,
-        };
-        Ok((parameters, next))
+        match ChannelSequenceTLV::read(s, FIXED_SIZE) {
+            Ok((channel_sequence, next)) => {
+                let parameters = SynchronizationParametersTLV {
+                    next_channel: s[0],
+                    tx_counter: word(s, 1),
+                    master_channel: s[3],
+                    guard_time: s[4],
+                    aw_period: word(s, 5),
+                    af_period: word(s, 7),
+                    awdl_flags: word(s, 9),
+                    aw_ext_length: word(s, 11),
+                    aw_common_length: word(s, 13),
+                    remaining_aw_length: word(s, 15),
+                    min_ext_count: s[17],
+                    max_multicast_ext_count: s[18],
+                    max_unicast_ext_count: s[19],
+                    max_af_ext_count: s[20],
+                    master_address: MACAddress(s[21], s[22], s[23], s[24], s[25], s[26]),
+                    presence_mode: s[27],
+                    reserved: s[28],
+                    aw_seq_number: word(s, 29),
+                    ap_beacon_alignment_delta: word(s, 31),
+                    channel_sequence,
+                };
+                Ok((parameters, next))
+            }
+            Err(why) => Err(why),
+        }
     }
 
     pub fn consistent(self) -> Result<bool, Refusal>
@@ -94,12 +99,15 @@ impl SynchronizationParametersTLV {
         Ok(FIXED_SIZE + n)
     }
 
-    // What the writer goes by, settled before its first byte. A record with a legacy sequence has a size too, and is not written.
+    // What the writer goes by, settled before its first byte. A record with a legacy sequence has a size too, and is not written. The
+    // refusal has an arm of its own, for the same reason as in `read`.
     pub fn written_size(self) -> Result<usize, Refusal>
         ensures { told result ≡ length_of (bytes_of self) }
     {
-        let n = self.channel_sequence.written_size()?;
-        Ok(FIXED_SIZE + n)
+        match self.channel_sequence.written_size() {
+            Ok(n) => Ok(FIXED_SIZE + n),
+            Err(why_not) => Err(why_not),
+        }
     }
 
     pub fn write(self, buf: &mut [u8]) -> Result<usize, Refusal>
