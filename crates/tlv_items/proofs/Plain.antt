@@ -4,7 +4,7 @@ use Prim.Native.Nat.{ℕ, ◌+◌, ◌*◌, ◌-◌, ◌≤◌, ◌<◌}
 use native.Mathlib.Omega.{arith}
 use native.Mathlib.Decide.{dec_le}
 use mathlib.Core.Logic.{dite}
-use mathlib.Core.Path.{◌≡◌, refl, sym, ap}
+use mathlib.Core.Path.{◌≡◌, refl, sym, ap, ◌∙◌}
 use mathlib.Core.List.{List}
 use lib.ListN.{length, get_or}
 use borrow.Author.Tests.{eq-eqb, ne_eqb, le-leb, lt-leb}
@@ -29,6 +29,10 @@ few-left s at more h =
     (dite (dec_le 1 (length s - at))
     (λ one. rw (← number-whole 0 s at (get_or s at 0) one (omega arith), ← number_short 1 s (at + 1) (omega arith)))
     (λ none. rw (← number_short 0 s at (omega arith))))
+
+-- a cut is answered at the place of the item, however that place is computed
+pub cut-there : {found : Step} {at place : ℕ} → found ≡ Step.Cut at → place ≡ at → Step.Cut place ≡ found
+cut-there cut same = ap Step.Cut same ∙ sym cut
 
 module _ (s : List ℕ) (at : ℕ) (three : 3 ≤ length s - at) where
   type-read : number 1 s at ≡ read (get_or s at 0) (at + 1)

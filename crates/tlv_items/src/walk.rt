@@ -7,7 +7,7 @@ ghost use Rattle.tlv_items.specs.Said.{said_end};
 use crate::item::{End, Item, Step};
 
 // With fewer than three bytes left, or a length above what follows, the tail is cut at the place of the item. It goes by what is left:
-// the three fields read one after the other took a third longer (docs/SPEED.md).
+// the three fields read one after the other took a fifth to a third longer (docs/SPEED.md).
 pub fn step(tail: &[u8], at: usize) -> Step
     ensures { result ≡ step_at tail.now at }
 {
